@@ -3,7 +3,7 @@
  *
  * play [--pages N | --image FILE] [--save FILE] < SCRIPT
  *
- * Scripts are taken to be lawful: a line that is none ends the program with status 2. */
+ * Scripts are taken to be conforming: a line that is none ends the program with status 2. */
 #include "flash.h"
 #include "keyboard.h"
 #include <stdbool.h>

@@ -88,7 +88,7 @@ STEPS = [
     Step("a keyboard outlives cuts on flash with error correction", ["tools/keyboard-cuts/run"], needs_cargo()),
     Step("a chip that is cut at any instruction", ["bin/board-test"], needs_cargo(crates=["arrayvec"])),
     Step("examples that meet a host", [*PYTHON, "tests/test_hosts.py"], needs_cargo(crates=["arrayvec"])),
-    Step("mutants of the USB device by hand are killed", [*PYTHON, "tests/wrong_fronts.py"], needs_cargo()),
+    Step("mutants of the USB device by hand are killed", [*PYTHON, "tests/device_mutants.py"], needs_cargo()),
     Step("a run as a capture", [*PYTHON, "tests/test_pcap.py", "--quiet"], needs_cargo(), "plain"),
     Step("the parts of bin/linux-test", [*PYTHON, "tools/linux_test/test_linux_test.py", "--quiet"]),
     Step("a Linux that types", ["bin/linux-test"], needs_cargo(crates=["arrayvec"])),

@@ -1,6 +1,6 @@
 """Writes the proved source as plain Rust: `export-rust [--contracts] [--crate NAME] [DIR]`.
 
-What is exported is the text of the proved sources without what proofs alone read: ghost items, clauses, laws, the prover's
+What is exported is the text of the proved sources without what proofs alone read: ghost items, clauses, theorems, the prover's
 attributes and impls. Each crate of the source becomes a module `parts::NAME` of one crate of plain Rust, and paths are
 changed. `rules.py` says what is known; anything else is refused with its file and line, and then nothing is written.
 """

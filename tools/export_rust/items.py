@@ -236,8 +236,8 @@ class Translator:
         first = text_at(tokens, after(tokens, self.past_visibility(tokens)))
         if words[-2] == rules.PROVER_TRAIT or first in rules.DERIVING_LIBRARIES:
             return None
-        if words[1] in self.neighbours and words[2:4] == ["::", "laws"]:
-            return self.laws(tokens[0], words[4:])
+        if words[1] in self.neighbours and words[2:4] == ["::", "theorems"]:
+            return self.theorems(tokens[0], words[4:])
         condition = self.holder.conditions.get((self.crate, self.joined(first)))
         if condition == rules.LEFT_OUT:
             return None
@@ -249,12 +249,12 @@ class Translator:
         if condition:
             lead.attributes.append(f"#[cfg({condition})]")
 
-    def laws(self, token, words):
-        """A `use` of laws of a crate below is left out, as are their calls."""
+    def theorems(self, token, words):
+        """A `use` of theorems of a crate below is left out, as are their calls."""
         names = {word for word in words if word.isidentifier()}
         if not names or "*" in words:
-            self.refuse(token, "laws of another crate without their names")
-        self.rewriter.laws |= names
+            self.refuse(token, "theorems of another crate without their names")
+        self.rewriter.theorems |= names
 
     def implementation(self, tokens, depth):
         """An impl or a trait. One of the prover's trait is left out."""
@@ -310,12 +310,12 @@ class Translator:
     # Functions
 
     def function(self, lead, tokens):
-        """A function without its contract, or None for a law, which has no parameters, no result and no body."""
+        """A function without its contract, or None for a theorem, which has no parameters, no result and no body."""
         brace = find(tokens, "{")
         clauses = [token for token in tokens[:brace] if token.kind == "clause"]
         name = tokens[after(tokens, find(tokens, "fn"))].text
         tokens = self.without_clauses(tokens, brace)
-        if clauses and self.is_law(tokens):
+        if clauses and self.is_theorem(tokens):
             return None
         tokens = self.formatter(tokens)
         self.inline(lead, tokens, (self.crate, f"{self.of}::{name}" if self.of else name))
@@ -339,7 +339,7 @@ class Translator:
         gap = [] if text_at(tokens, rest) == ";" else [Token("blank", " ", tokens[rest].line)]
         return tokens[:before(tokens, first) + 1] + gap + tokens[rest:]
 
-    def is_law(self, tokens):
+    def is_theorem(self, tokens):
         """Whether a function is `fn name() {}`, or `fn name<E: Trait>() {}`."""
         words = [token.text for token in tokens[self.past_visibility(tokens):] if token.kind not in TRIVIA]
         of_types = words[2] == "<" and words[-5] == ">" and "(" not in words[2:-4]

@@ -28,7 +28,7 @@ class Rewriter:
         self.holder = holder            # the rules of the crate of plain Rust that it becomes a part of
         self.hosted = hosted            # whether this code may take memory
         self.traits = set()             # the traits that its calls need
-        self.laws = set()               # the laws of crates below that the file takes
+        self.theorems = set()               # the theorems of crates below that the file takes
 
     def refuse(self, token, why):
         raise Refused(f"{self.file}:{token.line}: {why}")
@@ -90,7 +90,7 @@ class Rewriter:
         last = text_at(tokens, before(tokens, at))
         following = after(tokens, at)
         next_text = text_at(tokens, following)
-        if token.text in self.laws and last in (";", "{", "}"):
+        if token.text in self.theorems and last in (";", "{", "}"):
             return "", find(tokens, ";", at) + 1
         if token.text in rules.REFUSED_WORDS or token.text == "static" and next_text == "mut":
             self.refuse(token, f"`{token.text}` is not exported")

@@ -65,10 +65,10 @@ LOG = Rules(
     derives={("page_turnover", "Words"): ("Debug",), ("ecc_flash", "PairedFlash"): ("Debug",), ("ecc_flash", "CutFlash"): ("Debug",)},
     unstarted={("page_turnover", "Log"): None, ("page_turnover", "Task"): "Task::Copy(Target::Unread, 0)"},
     docs={("flash_model", ""): [("`world` runs on", "the crate `kbsim` runs on")],
-          ("records", ""): [(" (`laws`).", ".")],
-          ("ecc_flash", ""): [("meant (`laws`).", "meant."), ("/// - `outcome` of", "/// - the outcome of"), ("///   (`laws`). A", "///   from this. A")],
-          ("settings", ""): [("not before\n//! (`laws::whole_or_absent`). Of", "not before.\n//! Of"), (" (`laws::compacted`).", ".")],
-          ("page_turnover", ""): [(" (`laws::an_operation_leaves`).", "."), ("`keymap_store` calls it", "The crate `wuzhikar` calls it")]},
+          ("records", ""): [(" (`theorems`).", ".")],
+          ("ecc_flash", ""): [("meant (`theorems`).", "meant."), ("/// - `outcome` of", "/// - the outcome of"), ("///   (`theorems`). A", "///   from this. A")],
+          ("settings", ""): [("not before\n//! (`theorems::whole_or_absent`). Of", "not before.\n//! Of"), (" (`theorems::compacted`).", ".")],
+          ("page_turnover", ""): [(" (`theorems::an_operation_leaves`).", "."), ("`keymap_store` calls it", "The crate `wuzhikar` calls it")]},
 )
 
 KEYBOARD = Rules(
@@ -124,20 +124,20 @@ DETAILS = Rules(
              ("report_read", "Plans"): ("Clone",), ("report_read", "ReportReader"): ("Clone", "Debug"), ("report_read", "Reading"): ("Clone",),
              ("report_read", "Changed"): ("Clone", "Default", "PartialEq", "Eq")},
     docs={("field_details", "text"): [("`descriptor_parse::parse`", "`wuzhikar_reader::parse`")],
-          ("field_details", "told"): [("`descriptor_parse::Descriptor`", "`wuzhikar_reader::Descriptor`"),
+          ("field_details", "details"): [("`descriptor_parse::Descriptor`", "`wuzhikar_reader::Descriptor`"),
                                       ("`descriptor_parse::Descriptor::fields`", "`wuzhikar_reader::Descriptor::fields`")]},
 )
 
 SIMULATOR = Rules(
     name="kbsim",
-    crates=("host", "world", "ecc_law", "text_io", "script", "kbsim", "parse_lines", "explanations"),
+    crates=("host", "world", "ecc_theorem", "text_io", "script", "kbsim", "parse_lines", "explanations"),
     below=(KEYBOARD, LOG, READER),
     allocs=True,
     hidden=frozenset({("world", "WorldOf::new"), ("host", "Host::new")}),
     fallible_clones=frozenset({("host", "UsageList"), ("host", "Reading")}),
-    derives={("ecc_law", "Told"): ("Debug",), ("kbsim", "Outcome"): ("Debug",), ("kbsim", "Step"): ("Debug",)},
+    derives={("ecc_theorem", "Reported"): ("Debug",), ("kbsim", "Outcome"): ("Debug",), ("kbsim", "Step"): ("Debug",)},
     docs={("host", ""): [("`descriptor_parse::Parser` and `host_extract`", "`wuzhikar_reader::Parser` and `wuzhikar_reader::extract`")],
-          ("ecc_law", ""): [("in two units each (`image_of`).", "in two units each.")],
+          ("ecc_theorem", ""): [("in two units each (`image_of`).", "in two units each.")],
           ("kbsim", ""): [("The program `kbsim_cli` calls it", "The program of this crate calls it")],
           ("parse_lines", ""): [("The program `kbsim_cli` calls them", "The program of this crate calls them")]},
 )
@@ -149,28 +149,28 @@ USB = Rules(
     hidden=frozenset({("usb_keyboard", "UsbKeyboardOf::start_in")}),
     conditions={("usb_device", module): LEFT_OUT
                 for module in ("played_buffers", "played_controller", "quiet_controller", "tests")},
-    docs={("usb_device", ""): [("acknowledgements were lost (`laws::confirmed_on_the_bus`); `usb_keyboard` leads\n//! on to the flash. Each", "acknowledgements were lost. Each"),
-                               ("feature commands (`guard_laws`), and", "feature commands, and"),
-                               ("events before give (`laws::endpoint_is_looked_back`). The", "events before give. The"),
-                               ("their order (`laws::reports_are_got_in_order`): once", "their order: once")],
+    docs={("usb_device", ""): [("acknowledgements were lost (`theorems::confirmed_on_the_bus`); `usb_keyboard` leads\n//! on to the flash. Each", "acknowledgements were lost. Each"),
+                               ("feature commands (`guard_theorems`), and", "feature commands, and"),
+                               ("events before give (`theorems::endpoint_is_looked_back`). The", "events before give. The"),
+                               ("their order (`theorems::reports_are_got_in_order`): once", "their order: once")],
           ("usb_keyboard", "transfers"): [("`usb_device::Guarded` and `usb_device::Forgetting` stand", "`Guarded` and `Forgetting` stand"),
                                           ("function `usb_device::write` on", "function `write` on")],
           ("usb_keyboard", ""): [("a lock and a pace before it (`usb_device::Guarded`). `UsbKeyboard", "a lock and a pace before it (`Guarded`). `UsbKeyboard"),
-                                 ("`usb_device::Forgetting` stands before it\n//! (`laws::stored_where_forgotten`).", "`Forgetting` stands before it."),
-                                 ("writes the entry (`laws::seen_is_stored`, `laws::stored_until_written`). The", "writes the entry. The"),
-                                 ("one for each pace\n//! (`laws::accepted_behind_a_guard`), also where `usb_device::Forgetting` stands between (`laws::accepted_where_forgotten`).",
+                                 ("`usb_device::Forgetting` stands before it\n//! (`theorems::stored_where_forgotten`).", "`Forgetting` stands before it."),
+                                 ("writes the entry (`theorems::seen_is_stored`, `theorems::stored_until_written`). The", "writes the entry. The"),
+                                 ("one for each pace\n//! (`theorems::accepted_behind_a_guard`), also where `usb_device::Forgetting` stands between (`theorems::accepted_where_forgotten`).",
                                   "one for each pace, also where `Forgetting` stands between."),
-                                 ("and is a premise of `laws::stored_until_written`.", "and is a premise of the guarantee.")],
-          ("usb_device", "control_buffers"): [("confirmed by the device: `laws::seen_is_confirmed` of the link that the call keeps. And", "confirmed by the device. And")],
-          ("usb_device", "usb_device"): [("the device behind (`laws::confirmed_on_the_bus`), and the", "the device behind, and the"),
-                                         ("in their order (`laws::reports_are_got_in_order`). Nothing", "in their order. Nothing")]},
+                                 ("and is a premise of `theorems::stored_until_written`.", "and is a premise of the guarantee.")],
+          ("usb_device", "control_buffers"): [("confirmed by the device: `theorems::seen_is_confirmed` of the link that the call keeps. And", "confirmed by the device. And")],
+          ("usb_device", "usb_device"): [("the device behind (`theorems::confirmed_on_the_bus`), and the", "the device behind, and the"),
+                                         ("in their order (`theorems::reports_are_got_in_order`). Nothing", "in their order. Nothing")]},
 )
 
 # All crates of plain Rust that are made, lowest first.
 WORKSPACE = (LOG, KEYBOARD, USB, READER, DETAILS, SIMULATOR)
 
-# Crates that are laws or definitions alone, of which nothing is left.
-PROOF_CRATES = {"shapes", "session_law", "reading_law"}
+# Crates that are theorems or definitions alone, of which nothing is left.
+PROOF_CRATES = {"shapes", "session_theorem", "reading_theorem"}
 
 # Real crates of the registry that the source's code is written over.
 LIBRARIES = {"arrayvec"}

@@ -89,7 +89,7 @@ def ghost_end(words, brace):
     return end + 1 if words[end:end + 1] in ([";"], [","]) else end
 
 
-def law(words, at):
+def theorem(words, at):
     """A function without parameters, result and body, of which the clauses said all."""
     return at + 6 if words[at] == "fn" and words[at + 2:at + 6] == ["(", ")", "{", "}"] else None
 
@@ -123,13 +123,13 @@ def shared_rules(words):
 
 
 class Source:
-    """The form of a source's text. `laws` are the names of all laws."""
+    """The form of a source's text. `theorems` are the names of all theorems."""
 
-    def __init__(self, crate, module, words, laws, errors):
-        self.crate, self.module, self.laws, self.errors = crate, module, laws, errors
+    def __init__(self, crate, module, words, theorems, errors):
+        self.crate, self.module, self.theorems, self.errors = crate, module, theorems, errors
         words = without(words, clause_or_ghost)
         words = without(words, drop_bound)
-        words = without(shared_rules(words), law)
+        words = without(shared_rules(words), theorem)
         words = without(words, prover_impl)
         words = without(words, self.used)
         words = self.without_texts(words)
@@ -139,12 +139,12 @@ class Source:
         self.words = derived(arguments(paths(words)))
 
     def used(self, words, at):
-        """The use of the prover's trait, of laws and of what is left out; and the modules of these."""
+        """The use of the prover's trait, of theorems and of what is left out; and the modules of these."""
         if words[at] == "use":
             end = past(words, at, ";")
             names = words[at + 1:end]
-            return end if "Model" in names or "thiserror" in names or "laws" in names or names[0] in LEFT_OUT.get(self.crate, ()) else None
-        if words[at] == "mod" and words[at + 2] == ";" and (words[at + 1] == "laws" or words[at + 1] in LEFT_OUT.get(self.crate, ())):
+            return end if "Model" in names or "thiserror" in names or "theorems" in names or names[0] in LEFT_OUT.get(self.crate, ()) else None
+        if words[at] == "mod" and words[at + 2] == ";" and (words[at + 1] == "theorems" or words[at + 1] in LEFT_OUT.get(self.crate, ())):
             return at + 3
         return None
 
@@ -163,8 +163,8 @@ class Source:
         return made
 
     def called(self, words, at):
-        """The call of a law, which does nothing."""
-        return at + 4 if words[at] in self.laws and words[at + 1:at + 4] == ["(", ")", ";"] and words[at - 1] in ("{", "}", ";") else None
+        """The call of a theorem, which does nothing."""
+        return at + 4 if words[at] in self.theorems and words[at + 1:at + 4] == ["(", ")", ";"] and words[at - 1] in ("{", "}", ";") else None
 
 
 def writer(words, at):
@@ -298,18 +298,18 @@ def of_source(crate):
 
 
 def laws_of(all_words):
-    """The names of all laws."""
+    """The names of all theorems."""
     names = set()
     for words in all_words:
         bare = without(words, clause_or_ghost)
-        names |= {bare[at + 1] for at in range(len(bare)) if law(bare, at)}
+        names |= {bare[at + 1] for at in range(len(bare)) if theorem(bare, at)}
     return names
 
 
-def differences(name, crate, module, words, plain, laws):
+def differences(name, crate, module, words, plain, theorems):
     """How an export is not what its source says, as lines."""
     errors = []
-    source = Source(crate, module, words, laws, errors).words
+    source = Source(crate, module, words, theorems, errors).words
     of_type, there = derives(words), derives(plain)
     for item in sorted(set(of_type) & set(there)):
         lost, more = of_type[item] - DONE - there[item], there[item] - of_type[item] - ADDED
@@ -342,7 +342,7 @@ def read(path):
 
 
 def all_files():
-    """The files of all crates, and the names of all laws."""
+    """The files of all crates, and the names of all theorems."""
     crate_of = {file[:-3]: holder for holder in HOLDERS for file in os.listdir(f"{ROOT}/rust/{holder}/src/parts") if file.endswith(".rs")}
     files = list(exported_files(crate_of))
     return files, laws_of(words for _, _, _, words, _ in files)
@@ -350,8 +350,8 @@ def all_files():
 
 def main():
     argparse.ArgumentParser(prog="same_tokens.py", description=__doc__).parse_args()
-    files, laws = all_files()
-    faults = [fault for name, crate, module, words, plain in files for fault in differences(name, crate, module, words, plain, laws)]
+    files, theorems = all_files()
+    faults = [fault for name, crate, module, words, plain in files for fault in differences(name, crate, module, words, plain, theorems)]
     for fault in faults:
         print(f"rust: {fault}", file=sys.stderr)
     print(f"same_tokens: {len(files)} files, {sum(len(plain) for *_, plain in files)} tokens, {len(faults)} differences")

@@ -60,8 +60,8 @@ REFUSED = [
     "fn f(v: Vec<u8>) -> u8 { 1 }",
     "use std::process::Abort;",
     "use std::collections::HashMap;",
-    "use records::laws;",
-    "use records::laws::*;",
+    "use records::theorems;",
+    "use records::theorems::*;",
     "fn f() -> u8 { assert!(rt; a); 1 }",
     "fn f() -> u8 { panic!(\"a\") }",
     "fn f() -> u8 { unreachable!(\"a\") }",
@@ -160,7 +160,7 @@ class Forms(unittest.TestCase):
 
 class Tokens(unittest.TestCase):
     def test_each_changed_operator_and_number_is_reported(self):
-        files, laws = all_files()
+        files, theorems = all_files()
         changed = {"<": "<=", "==": "!=", "+": "-", "0": "1", "1": "2", "true": "false", "return": "break"}
         tried = 0
         for name, crate, module, words, plain in files:
@@ -168,7 +168,7 @@ class Tokens(unittest.TestCase):
             for at, word in enumerate(plain):
                 if crate == "page_turnover" and word in changed and at not in zeros:
                     made = plain[:at] + [changed[word]] + plain[at + 1:]
-                    told = list(differences(name, crate, module, words, made, laws))
+                    told = list(differences(name, crate, module, words, made, theorems))
                     self.assertEqual(len(told), 1, " ".join(plain[at - 5:at + 5]))
                     tried += 1
         self.assertGreater(tried, 60)

@@ -56,7 +56,7 @@ class Spans(unittest.TestCase):
                 self.assertEqual(why(span), "")
 
     def test_what_is_not_there_is_reported(self):
-        for span in ("Logs", "Log::steps", "Log::offset", "Step::Done", "steps()", "laws::f", "NorFlash::UNITS", "PlainLog::step", "world"):
+        for span in ("Logs", "Log::steps", "Log::offset", "Step::Done", "steps()", "theorems::f", "NorFlash::UNITS", "PlainLog::step", "world"):
             with self.subTest(span):
                 self.assertIn("nothing", why(span))
 

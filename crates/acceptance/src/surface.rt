@@ -209,7 +209,7 @@ pub fn transfers(packet: [u8; 8], view: &DeviceView, verdict: Verdict) -> EpAnsw
     ep.settle();
     ep.fail();
     ep.reset();
-    let (told, effect): (EpAnswer, Effect) = ep.in_packet();
+    let (got, effect): (EpAnswer, Effect) = ep.in_packet();
     match effect {
         Effect::Nothing => {}
         Effect::Idle(id, duration) => {
@@ -221,7 +221,7 @@ pub fn transfers(packet: [u8; 8], view: &DeviceView, verdict: Verdict) -> EpAnsw
     }
     match step {
         OutStep::Answered(answer) => answer,
-        OutStep::Leds(0_u8) => told,
+        OutStep::Leds(0_u8) => got,
         OutStep::Leds(_) => EpAnswer::Ack,
         OutStep::Offer(command) => offered(command),
     }

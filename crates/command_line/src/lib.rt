@@ -1,6 +1,6 @@
 //! The command line of the program `kbsim`: what its words ask for, or why they are refused, and the texts of its help.
 //!
-//! Nothing is kept. It promises that each command line is answered, without a panic; what it answers is only tested.
+//! Nothing is kept. It guarantees that each command line is answered, without a panic; what it answers is only tested.
 //! `kbsim_cli` calls it.
 #![tactic(auto)]
 
@@ -199,7 +199,7 @@ fn run<'a>(alloc: Global) -> Result<Command<'a>, AllocError> {
         explain(alloc),
         file(alloc),
     ]?;
-    told(alloc, "run", "Runs a script", RUN_HELP, RUN_STATUS_HELP).args(args)
+    described(alloc, "run", "Runs a script", RUN_HELP, RUN_STATUS_HELP).args(args)
 }
 
 fn pages<'a>(alloc: Global) -> Arg<'a> {
@@ -240,7 +240,7 @@ fn file<'a>(alloc: Global) -> Arg<'a> {
 }
 
 fn describe<'a>(alloc: Global) -> Command<'a> {
-    told(
+    described(
         alloc,
         "describe",
         "Prints the keyboard's descriptors",
@@ -251,11 +251,11 @@ fn describe<'a>(alloc: Global) -> Command<'a> {
 
 fn parse<'a>(alloc: Global) -> Result<Command<'a>, AllocError> {
     let about = "Prints the fields of a report descriptor";
-    told(alloc, "parse", about, PARSE_HELP, STATUS_HELP).arg(file(alloc))
+    described(alloc, "parse", about, PARSE_HELP, STATUS_HELP).arg(file(alloc))
 }
 
 /// A command with the texts of its help: in a line, at length, and of its exit statuses.
-fn told<'a>(
+fn described<'a>(
     alloc: Global,
     name: &'a str,
     line: &'a str,

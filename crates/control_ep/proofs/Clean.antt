@@ -10,10 +10,10 @@ use Rattle.control_ep.specs.declared.answer.OutStep.TheVariants.{Offer}
 use Rattle.control_ep.specs.declared.answer.Verdict.{Verdict}
 use Rattle.control_ep.specs.declared.answer.Verdict.TheVariants.{Done, Working, Busy, Refused}
 use Rattle.control_ep.specs.Transfers.{HostReport, LedsWithId, LedsAlone, FeatureData, Takes, Stage, Rest, Sending, Taking, Waiting, Status, Stalled}
-use Rattle.control_ep.specs.Calls.{EpCall, Setup, Out, Judged, In, Settle, Fail, Reset}
+use Rattle.control_ep.specs.Calls.{EpCall, Setup, Out, Checked, In, Settle, Fail, Reset}
 use Rattle.control_ep.specs.Stage.{LastSetup, Begins, calls_since, last_setup, first_stall, is_empty_packet, is_ack, acknowledges, CommandState, NoCommand, Works, Settled, Failed, state_after, command_state, is_empty_in, Progress, progress_of, after_command, unless_stalled, stage}
-use Rattle.control_ep.specs.Answers.{in_answer, has_id, content, received_report, report_step, out_step, judged_answer}
-use Rattle.control_ep.specs.Stands.{is_offered, AllAnswered}
+use Rattle.control_ep.specs.Answers.{in_answer, has_id, content, received_report, report_step, out_step, checked_answer}
+use Rattle.control_ep.specs.Relation.{is_offered, AllAnswered}
 use Rattle.control_ep.proofs.Stages.{stage_by, stage-is, taking_is, IsTaking, IsWaiting}
 
 -- no command without a report that was taken; no status packet before it was, nor while its command works
@@ -153,14 +153,14 @@ clean_working acked start taken state confirmed a t c = record {
   confirmed_after = λ kind length s e. let f = unconfirmed start taken state confirmed kind length s t c in cc;
 }
 
-clean_judged : (verdict : Verdict) (answer : EpAnswer) (past : List EpCall) → answer ≡ judged_answer verdict → list_any acknowledges (calls_since past) ≡ false
+clean_checked : (verdict : Verdict) (answer : EpAnswer) (past : List EpCall) → answer ≡ checked_answer verdict → list_any acknowledges (calls_since past) ≡ false
     → IsClean (last_setup past) (list_any acknowledges (calls_since past)) (command_state (calls_since past)) (list_any is_empty_in (calls_since past))
-    → IsClean (last_setup past) (is_ack answer || list_any acknowledges (calls_since past)) (command_state (Judged verdict answer ∷ calls_since past)) (list_any is_empty_in (calls_since past))
-clean_judged Done answer past a t c = clean_out (is_ack answer) (last_setup past) (list_any acknowledges (calls_since past)) (command_state (calls_since past)) (list_any is_empty_in (calls_since past)) c
-clean_judged Working answer past a t c =
+    → IsClean (last_setup past) (is_ack answer || list_any acknowledges (calls_since past)) (command_state (Checked verdict answer ∷ calls_since past)) (list_any is_empty_in (calls_since past))
+clean_checked Done answer past a t c = clean_out (is_ack answer) (last_setup past) (list_any acknowledges (calls_since past)) (command_state (calls_since past)) (list_any is_empty_in (calls_since past)) c
+clean_checked Working answer past a t c =
     clean_working (is_ack answer) (last_setup past) (list_any acknowledges (calls_since past)) (command_state (calls_since past)) (list_any is_empty_in (calls_since past)) (ap is_ack a) t c
-clean_judged Busy answer past a t c = clean_out (is_ack answer) (last_setup past) (list_any acknowledges (calls_since past)) (command_state (calls_since past)) (list_any is_empty_in (calls_since past)) c
-clean_judged (Refused why) answer past a t c =
+clean_checked Busy answer past a t c = clean_out (is_ack answer) (last_setup past) (list_any acknowledges (calls_since past)) (command_state (calls_since past)) (list_any is_empty_in (calls_since past)) c
+clean_checked (Refused why) answer past a t c =
     clean_out (is_ack answer) (last_setup past) (list_any acknowledges (calls_since past)) (command_state (calls_since past)) (list_any is_empty_in (calls_since past)) c
 
 pub clean : (past : List EpCall) → AllAnswered past → IsClean (last_setup past) (list_any acknowledges (calls_since past)) (command_state (calls_since past)) (list_any is_empty_in (calls_since past))
@@ -169,8 +169,8 @@ clean (Setup setup view ∷ past) all = record { idle = λ _. refl; confirmed_af
 clean (Reset ∷ past) all = record { idle = λ _. refl; confirmed_after = λ kind length s e. cc }
 clean (Out packet step ∷ past) all =
     clean_out (acknowledges (Out packet step)) (last_setup past) (list_any acknowledges (calls_since past)) (command_state (calls_since past)) (list_any is_empty_in (calls_since past)) (clean past all.1)
-clean (Judged verdict answer ∷ past) all =
-    clean_judged verdict answer past all.0.1 (offered_taking past all.1 all.0.0).not_taken (clean past all.1)
+clean (Checked verdict answer ∷ past) all =
+    clean_checked verdict answer past all.0.1 (offered_taking past all.1 all.0.0).not_taken (clean past all.1)
 clean (In answer effect ∷ past) all =
     clean_in (is_empty_packet answer) (last_setup past) (list_any acknowledges (calls_since past)) (command_state (calls_since past)) (list_any is_empty_in (calls_since past))
     (λ kind length s e. empty_packet_in (first_stall (calls_since past)) (last_setup past) (progress_of (calls_since past)) answer kind length s (all.0.0 ∙ ap in_answer (stage-is past)) e)

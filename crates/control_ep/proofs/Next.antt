@@ -12,18 +12,18 @@ use Rattle.control_ep.specs.declared.answer.Effect.TheVariants.{Nothing}
 use Rattle.control_ep.specs.declared.answer.DeviceView.{DeviceView}
 use Rattle.control_ep.specs.Transfers.{HostReport, LedsWithId, LedsAlone, FeatureData, Transfer, Stage, Rest, Sending, Taking, Waiting, Status, Stalled}
 use Rattle.control_ep.specs.Requests.{request_of, transfer_of}
-use Rattle.control_ep.specs.Calls.{EpCall, Setup, Out, Judged, In, Settle, Fail, Reset}
+use Rattle.control_ep.specs.Calls.{EpCall, Setup, Out, Checked, In, Settle, Fail, Reset}
 use Rattle.control_ep.specs.Packets.{packet_at}
 use Rattle.control_ep.specs.Stage.{outcome_of, progress_of, stage_with, stage}
-use Rattle.control_ep.specs.Answers.{in_answer, in_effect, received_report, report_step, out_step, judged_answer, packet_or_stall}
+use Rattle.control_ep.specs.Answers.{in_answer, in_effect, received_report, report_step, out_step, checked_answer, packet_or_stall}
 use Rattle.control_ep.specs.Moves.{begun, after_in, after_out, after_verdict, stage_then}
-use Rattle.control_ep.specs.Stands.{is_offered, IsAnswered, AllAnswered}
-use Rattle.control_ep.specs.ties.Stands.{StandsFor}
-use Rattle.control_ep.proofs.Moves.{in_stalled, in_sent, in_confirmed, in_waiting, out_stalled, out_closed, out_leds, out_offered, judged_done, judged_working, judged_busy, judged_refused, settled, failed}
+use Rattle.control_ep.specs.Relation.{is_offered, IsAnswered, AllAnswered}
+use Rattle.control_ep.specs.representation.Relation.{Refines}
+use Rattle.control_ep.proofs.Moves.{in_stalled, in_sent, in_confirmed, in_waiting, out_stalled, out_closed, out_leds, out_offered, checked_done, checked_working, checked_busy, checked_refused, settled, failed}
 use Rattle.control_ep.proofs.Clean.{received_is, offers, offered_feature}
 
-pub next_setup : (past : List EpCall) (s : Stage) (setup : List ℕ) (view : DeviceView) → StandsFor past s
-    → StandsFor (Setup setup view ∷ past) (begun setup view)
+pub next_setup : (past : List EpCall) (s : Stage) (setup : List ℕ) (view : DeviceView) → Refines past s
+    → Refines (Setup setup view ∷ past) (begun setup view)
 unfolding stage
 next_setup past s setup view h = record { answered = (tt, h.answered); stage = refl }
 
@@ -33,14 +33,14 @@ pub begun_by : (setup : List ℕ) (view : DeviceView) (transfer : Result Transfe
 begun_by setup view transfer e = rw (← e) refl
 
 -- an IN packet of a read
-sent_or_stalled : (past : List EpCall) (bytes : List ℕ) (asked sent : ℕ) (packet : Option (List ℕ)) → StandsFor past (Sending bytes asked sent)
+sent_or_stalled : (past : List EpCall) (bytes : List ℕ) (asked sent : ℕ) (packet : Option (List ℕ)) → Refines past (Sending bytes asked sent)
     → packet_at bytes asked sent ≡ packet
-    → StandsFor (In (packet_or_stall packet) Nothing ∷ past) (after_in (Sending bytes asked sent) (packet_or_stall packet))
+    → Refines (In (packet_or_stall packet) Nothing ∷ past) (after_in (Sending bytes asked sent) (packet_or_stall packet))
 sent_or_stalled past bytes asked sent (Some packet) h e = in_sent past bytes asked sent (record { items = packet }) h e
 sent_or_stalled past bytes asked sent None h e = in_stalled past (Sending bytes asked sent) WrongStage h (ap packet_or_stall e) refl
 
-pub next_in : (past : List EpCall) (s : Stage) (answer : EpAnswer) (effect : Effect) → StandsFor past s → answer ≡ in_answer s → effect ≡ in_effect s
-    → StandsFor (In answer effect ∷ past) (after_in s answer)
+pub next_in : (past : List EpCall) (s : Stage) (answer : EpAnswer) (effect : Effect) → Refines past s → answer ≡ in_answer s → effect ≡ in_effect s
+    → Refines (In answer effect ∷ past) (after_in s answer)
 next_in past (Sending bytes asked sent) answer effect h a e = rw (a, e) (sent_or_stalled past bytes asked sent (packet_at bytes asked sent) h refl)
 next_in past (Status due) answer effect h a e = rw (a, e) (in_confirmed past due h)
 next_in past Waiting answer effect h a e = rw (a, e) (in_waiting past h)
@@ -58,15 +58,15 @@ pub offer_due : (s : Stage) (packet bytes : List ℕ) → Offer bytes ≡ out_st
 offer_due = offers
 
 -- an OUT packet where a report is due
-received : (past : List EpCall) (kind : HostReport) (packet : List ℕ) (report : Result OutStep Why) → StandsFor past (Taking kind)
-    → received_report kind packet ≡ report → StandsFor (Out packet (report_step report) ∷ past) (after_out (Taking kind) (report_step report))
+received : (past : List EpCall) (kind : HostReport) (packet : List ℕ) (report : Result OutStep Why) → Refines past (Taking kind)
+    → received_report kind packet ≡ report → Refines (Out packet (report_step report) ∷ past) (after_out (Taking kind) (report_step report))
 received past kind packet (Err why) h e = out_stalled past (Taking kind) packet why h (ap report_step e)
 received past kind packet (Ok (Leds leds)) h e = out_leds past kind packet leds h e
 received past kind packet (Ok (Offer bytes)) h e = out_offered past kind packet bytes h e
 received past kind packet (Ok (Answered answer)) h e = absurd (not_answered kind packet answer e)
 
-pub next_out : (past : List EpCall) (s : Stage) (packet : List ℕ) (step : OutStep) → StandsFor past s → step ≡ out_step s packet
-    → StandsFor (Out packet step ∷ past) (after_out s step)
+pub next_out : (past : List EpCall) (s : Stage) (packet : List ℕ) (step : OutStep) → Refines past s → step ≡ out_step s packet
+    → Refines (Out packet step ∷ past) (after_out s step)
 next_out past (Sending bytes asked sent) [] step h a = rw a (out_closed past bytes asked sent h)
 next_out past (Sending bytes asked sent) (x ∷ xs) step h a = rw a (out_stalled past (Sending bytes asked sent) (x ∷ xs) WrongStage h refl)
 next_out past (Taking kind) packet step h a = rw a (received past kind packet (received_report kind packet) h refl)
@@ -76,30 +76,30 @@ next_out past (Status effect) packet step h a = rw a (out_stalled past (Status e
 next_out past Waiting packet step h a = rw a (out_stalled past Waiting packet WrongStage h refl)
 
 -- a verdict on an offer
-judged : (past : List EpCall) (verdict : Verdict) → StandsFor past (Taking FeatureData) → is_offered past ≡ true
-    → StandsFor (Judged verdict (judged_answer verdict) ∷ past) (after_verdict (Taking FeatureData) verdict)
-judged past Done h o = judged_done past (Taking FeatureData) h o
-judged past Working h o = judged_working past (Taking FeatureData) h o
-judged past Busy h o = judged_busy past (Taking FeatureData) h o
-judged past (Refused why) h o = judged_refused past (Taking FeatureData) why h o
+checked : (past : List EpCall) (verdict : Verdict) → Refines past (Taking FeatureData) → is_offered past ≡ true
+    → Refines (Checked verdict (checked_answer verdict) ∷ past) (after_verdict (Taking FeatureData) verdict)
+checked past Done h o = checked_done past (Taking FeatureData) h o
+checked past Working h o = checked_working past (Taking FeatureData) h o
+checked past Busy h o = checked_busy past (Taking FeatureData) h o
+checked past (Refused why) h o = checked_refused past (Taking FeatureData) why h o
 
-pub feature_due : (past : List EpCall) (s : Stage) → StandsFor past s → is_offered past ≡ true → s ≡ Taking FeatureData
+pub feature_due : (past : List EpCall) (s : Stage) → Refines past s → is_offered past ≡ true → s ≡ Taking FeatureData
 feature_due past s h o = h.stage ∙ offered_feature past h.answered o
 
-pub next_verdict : (past : List EpCall) (s : Stage) (verdict : Verdict) (answer : EpAnswer) → StandsFor past s → is_offered past ≡ true → answer ≡ judged_answer verdict
-    → StandsFor (Judged verdict answer ∷ past) (after_verdict s verdict)
+pub next_verdict : (past : List EpCall) (s : Stage) (verdict : Verdict) (answer : EpAnswer) → Refines past s → is_offered past ≡ true → answer ≡ checked_answer verdict
+    → Refines (Checked verdict answer ∷ past) (after_verdict s verdict)
 next_verdict past s verdict answer h o a =
     let due = feature_due past s h o in
-    rw (a, due) (judged past verdict (rw due at h) o)
+    rw (a, due) (checked past verdict (rw due at h) o)
 
-pub next_reset : (past : List EpCall) (s : Stage) → StandsFor past s → StandsFor (Reset ∷ past) Rest
+pub next_reset : (past : List EpCall) (s : Stage) → Refines past s → Refines (Reset ∷ past) Rest
 unfolding stage
 next_reset past s h = record { answered = (tt, h.answered); stage = refl }
 
-pub next : (past : List EpCall) (s : Stage) (call : EpCall) → StandsFor past s → IsAnswered past call → StandsFor (call ∷ past) (stage_then s call)
+pub next : (past : List EpCall) (s : Stage) (call : EpCall) → Refines past s → IsAnswered past call → Refines (call ∷ past) (stage_then s call)
 next past s (Setup setup view) h a = next_setup past s setup view h
 next past s (Out packet step) h a = next_out past s packet step h (a ∙ ap (λ x. out_step x packet) (sym h.stage))
-next past s (Judged verdict answer) h a = next_verdict past s verdict answer h a.0 a.1
+next past s (Checked verdict answer) h a = next_verdict past s verdict answer h a.0 a.1
 next past s (In answer effect) h a = next_in past s answer effect h (a.0 ∙ ap in_answer (sym h.stage)) (a.1 ∙ ap in_effect (sym h.stage))
 next past s Settle h a = settled past s h
 next past s Fail h a = failed past s h

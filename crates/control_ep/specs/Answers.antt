@@ -1,4 +1,4 @@
--- Believed: what each packet is answered, stage by stage (USB 2.0 section 8.5.3).
+-- Trusted: what each packet is answered, stage by stage (USB 2.0 section 8.5.3).
 use Rattle.shapes.specs.Shapes.{Bytes}
 use Rattle.std.specs.Prelude.{ℕ, ◌%◌, ◌^◌, ◌==◌, not, Bool, true, [], ◌∷◌, length, drop, slice_index, nat_lt, if◌then◌else◌, Option, Some, None, Result, Ok, Err}
 use Rattle.control_ep.specs.declared.why.Why.{Why}
@@ -70,15 +70,15 @@ out_step (Stalled why) packet = Answered (Stall why)
 out_step _ packet = Answered (Stall WrongStage)
 
 -- the answer to an offered packet
-abbrev pub judged_answer : Verdict → EpAnswer
-judged_answer Done = Ack
-judged_answer Working = Ack
-judged_answer Busy = Nak
-judged_answer (Refused why) = Stall why
+abbrev pub checked_answer : Verdict → EpAnswer
+checked_answer Done = Ack
+checked_answer Working = Ack
+checked_answer Busy = Nak
+checked_answer (Refused why) = Stall why
 
 -- the answer of a verdict: out of place where no feature report is due
 abbrev pub verdict_answer : Stage → Verdict → EpAnswer
-verdict_answer (Taking FeatureData) verdict = judged_answer verdict
+verdict_answer (Taking FeatureData) verdict = checked_answer verdict
 verdict_answer (Stalled why) verdict = Stall why
 verdict_answer _ verdict = Stall WrongStage
 

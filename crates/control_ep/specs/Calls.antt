@@ -1,4 +1,4 @@
--- Believed: what a control endpoint was asked, and what it answered.
+-- Trusted: what a control endpoint was asked, and what it answered.
 use Rattle.shapes.specs.Shapes.{Bytes}
 use Rattle.control_ep.specs.declared.answer.EpAnswer.{EpAnswer}
 use Rattle.control_ep.specs.declared.answer.OutStep.{OutStep}
@@ -13,7 +13,7 @@ pub data EpCall : Type 0 where
   -- an OUT packet, and what it came to
   Out : Bytes → OutStep → EpCall
   -- the verdict on an offer, and the answer to its packet
-  Judged : Verdict → EpAnswer → EpCall
+  Checked : Verdict → EpAnswer → EpCall
   -- the answer to an IN packet, and what it brings about
   In : EpAnswer → Effect → EpCall
   Settle : EpCall

@@ -7,5 +7,5 @@ pub mod Stage
 pub mod Answers
 pub mod Written
 pub mod Moves
-pub mod Stands
-pub mod ties
+pub mod Relation
+pub mod representation

@@ -1,4 +1,4 @@
--- Believed where this crate is called: what each call does to the stage, the look-back of `stage` one call at a time.
+-- Trusted where this crate is called: what each call does to the stage, the look-back of `stage` one call at a time.
 use Rattle.shapes.specs.Shapes.{Bytes}
 use Rattle.std.specs.Prelude.{ℕ, ◌+◌, []}
 use Rattle.control_ep.specs.declared.why.Why.TheVariants.{FlashFault, WrongStage}
@@ -11,7 +11,7 @@ use Rattle.control_ep.specs.declared.answer.Verdict.TheVariants.{Done, Working, 
 use Rattle.control_ep.specs.declared.answer.Effect.TheVariants.{Nothing}
 use Rattle.control_ep.specs.declared.answer.DeviceView.{DeviceView}
 use Rattle.control_ep.specs.Transfers.{FeatureData, Stage, Rest, Sending, Taking, Waiting, Status, Stalled}
-use Rattle.control_ep.specs.Calls.{EpCall, Setup, Out, Judged, In, Settle, Fail, Reset}
+use Rattle.control_ep.specs.Calls.{EpCall, Setup, Out, Checked, In, Settle, Fail, Reset}
 use Rattle.control_ep.specs.Requests.{request_of, transfer_of}
 use Rattle.control_ep.specs.Stage.{outcome_of, progress_of, stage_with}
 
@@ -51,7 +51,7 @@ begun setup view = stage_with (outcome_of (transfer_of (request_of setup) view) 
 abbrev pub stage_then : Stage → EpCall → Stage
 stage_then stage (Setup setup view) = begun setup view
 stage_then stage (Out packet step) = after_out stage step
-stage_then stage (Judged verdict answer) = after_verdict stage verdict
+stage_then stage (Checked verdict answer) = after_verdict stage verdict
 stage_then stage (In answer effect) = after_in stage answer
 stage_then stage Settle = after_end stage (Status Nothing)
 stage_then stage Fail = after_end stage (Stalled FlashFault)

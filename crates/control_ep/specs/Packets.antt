@@ -1,4 +1,4 @@
--- Believed: the packets of a transfer that reads (USB 2.0 sections 5.5.3 and 8.5.3).
+-- Trusted: the packets of a transfer that reads (USB 2.0 sections 5.5.3 and 8.5.3).
 use Rattle.shapes.specs.Shapes.{Bytes}
 use Rattle.std.specs.Prelude.{ℕ, zero, suc, ◌++◌, unwrap_or, ◌*◌, ◌==◌, ◌&&◌, [], length, take, drop, nat_lt, if◌then◌else◌, Option, Some, None}
 

@@ -1,4 +1,4 @@
--- Believed: the reasons of a STALL and their numbers.
+-- Trusted: the reasons of a STALL and their numbers.
 use Rattle.std.specs.Prelude.{ℕ}
 use Rattle.layers.specs.declared.code.KeymapError as Keymap
 use Rattle.layers.specs.declared.code.KeymapError.{KeymapError}

@@ -1,4 +1,4 @@
--- Believed: the requests that are served, and the order in which a SETUP packet is checked (USB 2.0 sections 9.3 and 9.4.3,
+-- Trusted: the requests that are served, and the order in which a SETUP packet is checked (USB 2.0 sections 9.3 and 9.4.3,
 -- HID 1.11 section 7).
 use Rattle.shapes.specs.Shapes.{Bytes}
 use Rattle.std.specs.Prelude.{ℕ, ◌+◌, ◌*◌, ◌/◌, ◌%◌, ◌==◌, ◌&&◌, not, Bool, true, List, [], ◌∷◌, if◌then◌else◌, slice_index, Option, Some, None, Result, Ok, Err}

@@ -1,4 +1,4 @@
--- Believed: the stage of the transfer under way, by looking back over the calls, newest first.
+-- Trusted: the stage of the transfer under way, by looking back over the calls, newest first.
 use Rattle.std.specs.Prelude.{ℕ, ◌+◌, ◌==◌, Bool, true, false, List, [], ◌∷◌, length, if◌then◌else◌, Option, Some, None, Result, Ok, Err}
 use Rattle.std.specs.List.{list_any}
 use Rattle.std.specs.Option.{option_or}
@@ -11,7 +11,7 @@ use Rattle.control_ep.specs.declared.answer.Verdict.TheVariants as Verdicts
 use Rattle.control_ep.specs.declared.answer.Effect.{Effect}
 use Rattle.control_ep.specs.declared.answer.Effect.TheVariants.{Nothing}
 use Rattle.control_ep.specs.Transfers.{Transfer, Reads, Takes, Sets, Stage, Rest, Sending, Taking, Waiting, Status, Stalled}
-use Rattle.control_ep.specs.Calls.{EpCall, Setup, Out, Judged, In, Settle, Fail, Reset}
+use Rattle.control_ep.specs.Calls.{EpCall, Setup, Out, Checked, In, Settle, Fail, Reset}
 use Rattle.control_ep.specs.Requests.{request_of, transfer_of}
 
 -- the calls after the last SETUP or reset
@@ -50,7 +50,7 @@ reason_in _ = None
 -- why a packet was stalled, if it was
 abbrev pub stall_of : EpCall → Option Why
 stall_of (Out _ (Answered answer)) = reason_in answer
-stall_of (Judged _ answer) = reason_in answer
+stall_of (Checked _ answer) = reason_in answer
 stall_of (In answer _) = reason_in answer
 stall_of _ = None
 
@@ -79,7 +79,7 @@ is_ack _ = false
 abbrev pub acknowledges : EpCall → Bool
 acknowledges (Out _ (Answered answer)) = is_ack answer
 acknowledges (Out _ (Leds _)) = true
-acknowledges (Judged _ answer) = is_ack answer
+acknowledges (Checked _ answer) = is_ack answer
 acknowledges _ = false
 
 -- what became of the command of a feature report: there is none, it works, it is settled, or it failed
@@ -97,7 +97,7 @@ state_after state end = state
 -- what became of the command that these calls began
 abbrev pub command_state : List EpCall → CommandState
 command_state [] = NoCommand
-command_state (Judged Verdicts.Working _ ∷ before) = Works
+command_state (Checked Verdicts.Working _ ∷ before) = Works
 command_state (Settle ∷ before) = state_after (command_state before) Settled
 command_state (Fail ∷ before) = state_after (command_state before) Failed
 command_state (_ ∷ before) = command_state before

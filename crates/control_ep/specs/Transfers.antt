@@ -1,4 +1,4 @@
--- Believed: what a SETUP packet says, the transfers that requests begin, and the stages of a transfer (USB 2.0 sections
+-- Trusted: what a SETUP packet says, the transfers that requests begin, and the stages of a transfer (USB 2.0 sections
 -- 8.5.3 and 9.3).
 use Rattle.shapes.specs.Shapes.{Bytes}
 use Rattle.std.specs.Prelude.{ℕ}

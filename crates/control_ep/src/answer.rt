@@ -1,7 +1,7 @@
 //! What comes in and goes out beside the packets themselves.
 
 ghost use Rattle.std.specs.Prelude.{◌≡◌};
-ghost use Rattle.control_ep.specs.Written.{told};
+ghost use Rattle.control_ep.specs.Written.{as_answer};
 
 use crate::Why;
 use arrayvec::ArrayVec;
@@ -36,7 +36,7 @@ pub enum InAnswer {
 impl InAnswer {
     /// Returns the answer together with its packet, whose bytes stand in this buffer.
     pub fn with(self, buffer: [u8; 8]) -> EpAnswer
-        ensures { result ≡ told self buffer }
+        ensures { result ≡ as_answer self buffer }
     {
         match self {
             InAnswer::Nak => EpAnswer::Nak,

@@ -3,7 +3,7 @@
 ghost use Rattle.std.specs.Prelude.{◌≡◌, ◌+◌, ◌≤◌, length, take, None, IsSome, IfSome};
 ghost use Rattle.std.specs.Option.{option_map};
 ghost use Rattle.control_ep.specs.Packets.{packet_at};
-ghost use Rattle.control_ep.specs.ties.ReadData.{descriptor_bytes};
+ghost use Rattle.control_ep.specs.representation.ReadData.{descriptor_bytes};
 
 use crate::packets::write_packet;
 use arrayvec::ArrayVec;
@@ -59,7 +59,7 @@ pub(crate) struct ReadData {
 }
 
 impl Model for ReadData {
-    ghost use Rattle.control_ep.specs.ties.ReadData.{Reading, source_bytes, IsLeft};
+    ghost use Rattle.control_ep.specs.representation.ReadData.{Reading, source_bytes, IsLeft};
 
     ghost Value = { Reading };
 

@@ -9,8 +9,8 @@ ghost use Rattle.control_ep.specs.declared.answer.OutStep.{OutStep};
 ghost use Rattle.control_ep.specs.declared.why.Why.{Why};
 ghost use Rattle.control_ep.specs.Stage.{stage_in, progress_of};
 ghost use Rattle.control_ep.specs.Transfers.{Rest, Taking, Status, Stalled, FeatureData};
-ghost use Rattle.control_ep.specs.ties.Views.{stage_view, transfer_view};
-ghost use Rattle.control_ep.specs.Calls.{EpCall, Setup, Out, Judged, In, Settle, Fail, Reset};
+ghost use Rattle.control_ep.specs.representation.Views.{stage_view, transfer_view};
+ghost use Rattle.control_ep.specs.Calls.{EpCall, Setup, Out, Checked, In, Settle, Fail, Reset};
 
 use crate::data::ReadData;
 use crate::report::received_report;
@@ -45,7 +45,7 @@ pub struct ControlEp {
 
 impl Model for ControlEp {
     ghost use Rattle.control_ep.specs.Transfers.{Stage};
-    ghost use Rattle.control_ep.specs.ties.Views.{stage_view};
+    ghost use Rattle.control_ep.specs.representation.Views.{stage_view};
 
     ghost Value = { Stage };
 
@@ -71,15 +71,15 @@ impl ControlEp {
     ghost use Rattle.control_ep.specs.Stage.{stage};
     ghost use Rattle.control_ep.specs.Moves.{begun, after_in, after_out, after_verdict, after_end};
     ghost use Rattle.control_ep.specs.Answers.{in_answer, in_effect, out_step, verdict_answer, IfNak, IfStall, IfAnswered, IfOffer};
-    ghost use Rattle.control_ep.specs.Written.{told, HasRoom};
-    ghost use Rattle.control_ep.specs.Stands.{is_offered};
-    ghost use Rattle.control_ep.specs.ties.Stands.{StandsFor};
+    ghost use Rattle.control_ep.specs.Written.{as_answer, HasRoom};
+    ghost use Rattle.control_ep.specs.Relation.{is_offered};
+    ghost use Rattle.control_ep.specs.representation.Relation.{Refines};
 
     /// Makes an endpoint at its start: no transfer is under way, and an IN or OUT packet is answered by
     /// `Stall(WrongStage)` until a SETUP packet comes.
     #[tactic(auto, using(crate::proofs::Moves::nothing_begun))]
     pub fn new() -> ControlEp
-        ensures stands { StandsFor [] result }
+        ensures refines { Refines [] result }
         ensures rests { result ≡ Rest }
     {
         ControlEp {
@@ -96,8 +96,8 @@ impl ControlEp {
     /// wValue names none; `WrongLength` where wLength is not the report's length in SET_REPORT, or not 0
     /// in SET_IDLE and SET_PROTOCOL.
     pub fn setup(&mut self, setup: [u8; 8], view: &DeviceView)
-        ensures stands { (past : List EpCall) → StandsFor past self.old
-            → StandsFor (Setup setup view.now ∷ past) self.new }
+        ensures refines { (past : List EpCall) → Refines past self.old
+            → Refines (Setup setup view.now ∷ past) self.new }
         ensures left { self.new ≡ begun setup view.now }
     {
         self.setup_from(setup, view);
@@ -107,8 +107,8 @@ impl ControlEp {
     /// else.
     #[tactic(auto, using(crate::proofs::Next::next_setup))]
     pub fn setup_from<D: DeviceReports>(&mut self, setup: [u8; 8], device: &D)
-        ensures stands { (view : DeviceView) (past : List EpCall) → D.shows device.now view → StandsFor past self.old
-            → StandsFor (Setup setup view ∷ past) self.new }
+        ensures refines { (view : DeviceView) (past : List EpCall) → D.shows device.now view → Refines past self.old
+            → Refines (Setup setup view ∷ past) self.new }
         ensures left { (view : DeviceView) → D.shows device.now view → self.new ≡ begun setup view }
     {
         self.begin(setup, device);
@@ -122,12 +122,12 @@ impl ControlEp {
     /// The answer is given at the token, and its effect with it: where a controller is handed packets
     /// before they are asked for, the call is made when the packet is taken.
     pub fn in_packet(&mut self) -> (EpAnswer, Effect)
-        ensures answer { (past : List EpCall) → StandsFor past self.old
+        ensures answer { (past : List EpCall) → Refines past self.old
             → result.0 ≡ in_answer (stage past) }
-        ensures effect { (past : List EpCall) → StandsFor past self.old
+        ensures effect { (past : List EpCall) → Refines past self.old
             → result.1 ≡ in_effect (stage past) }
-        ensures stands { (past : List EpCall) → StandsFor past self.old
-            → StandsFor (In result.0 result.1 ∷ past) self.new }
+        ensures refines { (past : List EpCall) → Refines past self.old
+            → Refines (In result.0 result.1 ∷ past) self.new }
         ensures left { self.new ≡ after_in self.old result.0 }
         ensures nak { IfNak result.0 ((self.new ≡ self.old) × (result.1 ≡ Effect.Nothing)) }
         ensures stall { IfStall result.0 (λ why. (self.new ≡ Stalled why) × (result.1 ≡ Effect.Nothing)) }
@@ -142,16 +142,16 @@ impl ControlEp {
     /// nothing.
     #[tactic(auto, using(crate::proofs::Next::next_in))]
     pub fn in_packet_into(&mut self, packet: &mut [u8; 8]) -> (InAnswer, Effect)
-        ensures answer { (past : List EpCall) → StandsFor past self.old
-            → told result.0 packet.new ≡ in_answer (stage past) }
-        ensures effect { (past : List EpCall) → StandsFor past self.old
+        ensures answer { (past : List EpCall) → Refines past self.old
+            → as_answer result.0 packet.new ≡ in_answer (stage past) }
+        ensures effect { (past : List EpCall) → Refines past self.old
             → result.1 ≡ in_effect (stage past) }
         ensures room { HasRoom result.0 }
-        ensures stands { (past : List EpCall) → StandsFor past self.old
-            → StandsFor (In (told result.0 packet.new) result.1 ∷ past) self.new }
-        ensures left { self.new ≡ after_in self.old (told result.0 packet.new) }
-        ensures nak { IfNak (told result.0 packet.new) ((self.new ≡ self.old) × (result.1 ≡ Effect.Nothing)) }
-        ensures stall { IfStall (told result.0 packet.new) (λ why. (self.new ≡ Stalled why) × (result.1 ≡ Effect.Nothing)) }
+        ensures refines { (past : List EpCall) → Refines past self.old
+            → Refines (In (as_answer result.0 packet.new) result.1 ∷ past) self.new }
+        ensures left { self.new ≡ after_in self.old (as_answer result.0 packet.new) }
+        ensures nak { IfNak (as_answer result.0 packet.new) ((self.new ≡ self.old) × (result.1 ≡ Effect.Nothing)) }
+        ensures stall { IfStall (as_answer result.0 packet.new) (λ why. (self.new ≡ Stalled why) × (result.1 ≡ Effect.Nothing)) }
     {
         self.answer_in(packet)
     }
@@ -163,10 +163,10 @@ impl ControlEp {
     /// Report ID; for the reason of a transfer that is stalled already; else with `WrongStage`.
     #[tactic(auto, using(crate::proofs::Next::next_out, crate::proofs::Next::offer_due))]
     pub fn out(&mut self, packet: &[u8]) -> OutStep
-        ensures step { (past : List EpCall) → StandsFor past self.old
+        ensures step { (past : List EpCall) → Refines past self.old
             → result ≡ out_step (stage past) packet.now }
-        ensures stands { (past : List EpCall) → StandsFor past self.old
-            → StandsFor (Out packet.now result ∷ past) self.new }
+        ensures refines { (past : List EpCall) → Refines past self.old
+            → Refines (Out packet.now result ∷ past) self.new }
         ensures left { self.new ≡ after_out self.old result }
         ensures offer { IfOffer result ((self.old ≡ Taking FeatureData) × (self.new ≡ self.old)) }
         ensures stall { IfAnswered result (λ answer.
@@ -183,19 +183,19 @@ impl ControlEp {
     #[tactic(auto, using(crate::proofs::Next::next_verdict, crate::proofs::Next::feature_due))]
     pub fn verdict(&mut self, verdict: Verdict) -> EpAnswer
         ensures answer { result ≡ verdict_answer self.old verdict }
-        ensures stands { (past : List EpCall) → StandsFor past self.old → IsTrue (is_offered past)
-            → StandsFor (Judged verdict result ∷ past) self.new }
+        ensures refines { (past : List EpCall) → Refines past self.old → IsTrue (is_offered past)
+            → Refines (Checked verdict result ∷ past) self.new }
         ensures left { self.new ≡ after_verdict self.old verdict }
     {
-        self.judge(verdict)
+        self.apply_verdict(verdict)
     }
 
     /// Tells that the command at work is stored: the status packet of its transfer is due, if the transfer
     /// still waits for it. Any other transfer stays as it is.
     #[tactic(auto, using(crate::proofs::Moves::settled))]
     pub fn settle(&mut self)
-        ensures stands { (past : List EpCall) → StandsFor past self.old
-            → StandsFor (Settle ∷ past) self.new }
+        ensures refines { (past : List EpCall) → Refines past self.old
+            → Refines (Settle ∷ past) self.new }
         ensures left { self.new ≡ after_end self.old (Status Effect.Nothing) }
     {
         if let Stage::Waiting = self.stage {
@@ -207,8 +207,8 @@ impl ControlEp {
     /// waits for it. Any other transfer stays as it is.
     #[tactic(auto, using(crate::proofs::Moves::failed))]
     pub fn fail(&mut self)
-        ensures stands { (past : List EpCall) → StandsFor past self.old
-            → StandsFor (Fail ∷ past) self.new }
+        ensures refines { (past : List EpCall) → Refines past self.old
+            → Refines (Fail ∷ past) self.new }
         ensures left { self.new ≡ after_end self.old (Stalled Why.FlashFault) }
     {
         if let Stage::Waiting = self.stage {
@@ -220,8 +220,8 @@ impl ControlEp {
     /// start.
     #[tactic(auto, using(crate::proofs::Next::next_reset))]
     pub fn reset(&mut self)
-        ensures stands { (past : List EpCall) → StandsFor past self.old
-            → StandsFor (Reset ∷ past) self.new }
+        ensures refines { (past : List EpCall) → Refines past self.old
+            → Refines (Reset ∷ past) self.new }
         ensures left { self.new ≡ Rest }
     {
         self.stage = Stage::Rest;
@@ -241,10 +241,10 @@ impl ControlEp {
 
     /// The answer to an IN packet in this stage, and its effect.
     fn answer_in(&mut self, packet: &mut [u8; 8]) -> (InAnswer, Effect)
-        ensures answer { told result.0 packet.new ≡ in_answer self.old }
+        ensures answer { as_answer result.0 packet.new ≡ in_answer self.old }
         ensures effect { result.1 ≡ in_effect self.old }
         ensures room { HasRoom result.0 }
-        ensures left { self.new ≡ after_in self.old (told result.0 packet.new) }
+        ensures left { self.new ≡ after_in self.old (as_answer result.0 packet.new) }
     {
         match self.stage {
             Stage::Sending => match self.read.next_packet(packet) {
@@ -296,19 +296,19 @@ impl ControlEp {
     }
 
     /// The answer of a verdict in this stage.
-    fn judge(&mut self, verdict: Verdict) -> EpAnswer
+    fn apply_verdict(&mut self, verdict: Verdict) -> EpAnswer
         ensures answer { result ≡ verdict_answer self.old verdict }
         ensures left { self.new ≡ after_verdict self.old verdict }
     {
         match self.stage {
-            Stage::Taking(HostReport::Feature) => self.judge_report(verdict),
+            Stage::Taking(HostReport::Feature) => self.apply_report_verdict(verdict),
             Stage::Stalled(why) => EpAnswer::Stall(why),
             _ => self.stall(Why::WrongStage),
         }
     }
 
     /// The answer of a verdict on a feature report that is due.
-    fn judge_report(&mut self, verdict: Verdict) -> EpAnswer
+    fn apply_report_verdict(&mut self, verdict: Verdict) -> EpAnswer
         requires { self.old ≡ Taking FeatureData }
         ensures answer { result ≡ verdict_answer self.old verdict }
         ensures left { self.new ≡ after_verdict self.old verdict }

@@ -2,7 +2,7 @@
 
 ghost use Rattle.std.specs.Prelude.{◌≡◌};
 ghost use Rattle.control_ep.specs.Answers.{received_report};
-ghost use Rattle.control_ep.specs.ties.Views.{report_view};
+ghost use Rattle.control_ep.specs.representation.Views.{report_view};
 
 use crate::request::HostReport;
 use crate::{OutStep, Why};

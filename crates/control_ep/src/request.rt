@@ -4,7 +4,7 @@ ghost use Rattle.std.specs.Prelude.{◌≡◌, ℕ, List, ◌/◌, ◌%◌};
 ghost use Rattle.control_ep.specs.declared.answer.DeviceView.{DeviceView};
 ghost use Rattle.control_ep.specs.declared.why.Why.{Why};
 ghost use Rattle.control_ep.specs.Requests.{request_of, requests, asked_at, device_descriptors, interface_descriptors, reports_read, idle_values, protocol_byte, reports_taken, length_of, takes_length, idle_effects, protocol_effects, named, transfer_of};
-ghost use Rattle.control_ep.specs.ties.Views.{fields_view, report_view, transfer_view, begun_view, asked_view};
+ghost use Rattle.control_ep.specs.representation.Views.{fields_view, report_view, transfer_view, begun_view, asked_view};
 
 use crate::data::{Descriptor, ReadData};
 use crate::{DeviceReports, Effect, Why};

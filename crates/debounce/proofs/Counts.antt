@@ -4,7 +4,7 @@ use Rattle.std.specs.Int.{bit_at}
 use Rattle.std.proofs.lemmas.Bool.{cases_lt}
 use Rattle.std.proofs.lemmas.Bool.Decides.{nat_tests}
 use Rattle.debounce.specs.Samples.{run_of, debounced, equal_latest}
-use Rattle.debounce.specs.ties.Rows.{KeyBits, KeyStandsFor}
+use Rattle.debounce.specs.representation.Rows.{KeyBits, KeyRefines}
 
 pub le_test : (a b : ℕ) → a ≤ b → nat_le a b ≡ true
 le_test a b l = grind (arith, nat_tests)
@@ -163,10 +163,10 @@ after key sample changed = record {
 other_of : (b : ℕ) (x : Bool) (past : List Bool) → (b == 1) ≡ x → run_of (not (b == 1)) (x ∷ past) ≡ 0
 other_of b x past e = subst (λ (y : Bool). run_of (not y) (x ∷ past) ≡ 0) (sym e) (run_of-other x past)
 
-stands_after : (x : Bool) (past : List Bool) (key : KeyBits) (changed : ℕ) → key.down < 2 → KeyStandsFor past key
+refines_after : (x : Bool) (past : List Bool) (key : KeyBits) (changed : ℕ) → key.down < 2 → KeyRefines past key
     → IsCount (equal_latest (x ∷ past)) (ones_after key.ones key.fours changed) (twos_after key.ones key.twos key.fours changed) (fours_after key.ones key.twos key.fours changed)
-    → KeyStandsFor (x ∷ past) (after key (bit_of x) changed)
-stands_after x past key changed l h c = record {
+    → KeyRefines (x ∷ past) (after key (bit_of x) changed)
+refines_after x past key changed l h c = record {
   other = other_of (bit_of x) x past (bit_of-test x);
   ones = c.first;
   twos = c.second;
@@ -174,34 +174,34 @@ stands_after x past key changed l h c = record {
   down = down_is x past key.down _ _ l c.first c.third h.down;
 }
 
-after_same : (x : Bool) (past : List Bool) (key : KeyBits) → key.last ≡ bit_of x → key.down < 2 → KeyStandsFor past key → KeyStandsFor (x ∷ past) (after key (bit_of x) 0)
+after_same : (x : Bool) (past : List Bool) (key : KeyBits) → key.last ≡ bit_of x → key.down < 2 → KeyRefines past key → KeyRefines (x ∷ past) (after key (bit_of x) 0)
 after_same x past key e l h =
     let none : run_of (not x) past ≡ 0 = rw (e, bit_of-test x) at h.other in
     let n : equal_latest (x ∷ past) ≡ min 5 (equal_latest past + 1) = omega (arith, equal_latest-cons x past, equal_latest-run x past none) in
-    stands_after x past key 0 l h (rw (n, h.ones, h.twos, h.fours) (counts_up (equal_latest past) (equal_latest-le past)))
+    refines_after x past key 0 l h (rw (n, h.ones, h.twos, h.fours) (counts_up (equal_latest past) (equal_latest-le past)))
 
 twice : (x : Bool) → not (not x) ≡ x
 twice true = refl
 twice false = refl
 
-after_change : (x : Bool) (past : List Bool) (key : KeyBits) → key.last ≡ bit_of (not x) → key.down < 2 → KeyStandsFor past key → KeyStandsFor (x ∷ past) (after key (bit_of x) 1)
+after_change : (x : Bool) (past : List Bool) (key : KeyBits) → key.last ≡ bit_of (not x) → key.down < 2 → KeyRefines past key → KeyRefines (x ∷ past) (after key (bit_of x) 1)
 after_change x past key e l h =
     let back : not (not x) ≡ x = twice x in
     let none : run_of x past ≡ 0 = rw (e, bit_of-test (not x), back) at h.other in
     let n : equal_latest (x ∷ past) ≡ 1 = omega (arith, equal_latest-cons x past) in
-    stands_after x past key 1 l h (rw (n, h.ones, h.twos, h.fours) (starts_again (equal_latest past) (equal_latest-le past)))
+    refines_after x past key 1 l h (rw (n, h.ones, h.twos, h.fours) (starts_again (equal_latest past) (equal_latest-le past)))
 
 zero_or_one : (n : ℕ) → n < 2 → (n ≡ 0) ⊎ (n ≡ 1)
 zero_or_one = below_two (λ n. (n ≡ 0) ⊎ (n ≡ 1)) (inl refl) (inr refl)
 
-up : (past : List Bool) (key : KeyBits) → key.last < 2 → key.down < 2 → KeyStandsFor past key → KeyStandsFor (false ∷ past) (after key 0 ((0 + key.last) % 2))
+up : (past : List Bool) (key : KeyBits) → key.last < 2 → key.down < 2 → KeyRefines past key → KeyRefines (false ∷ past) (after key 0 ((0 + key.last) % 2))
 up past key l d h =
     elim (zero_or_one key.last l) [
       | inl e ↦ (let n : (0 + key.last) % 2 ≡ 0 = omega (arith, e) in rw n (after_same false past key e d h))
       | inr e ↦ (let n : (0 + key.last) % 2 ≡ 1 = omega (arith, e) in rw n (after_change false past key e d h))
     ]
 
-pressed : (past : List Bool) (key : KeyBits) → key.last < 2 → key.down < 2 → KeyStandsFor past key → KeyStandsFor (true ∷ past) (after key 1 ((1 + key.last) % 2))
+pressed : (past : List Bool) (key : KeyBits) → key.last < 2 → key.down < 2 → KeyRefines past key → KeyRefines (true ∷ past) (after key 1 ((1 + key.last) % 2))
 pressed past key l d h =
     elim (zero_or_one key.last l) [
       | inl e ↦ (let n : (1 + key.last) % 2 ≡ 1 = omega (arith, e) in rw n (after_change true past key e d h))
@@ -209,7 +209,7 @@ pressed past key l d h =
     ]
 
 -- with the bits as the row's words have them
-pub after_sample : (past : List Bool) (key : KeyBits) (s : ℕ) → s < 2 → key.last < 2 → key.down < 2 → KeyStandsFor past key → KeyStandsFor ((s == 1) ∷ past) (after key s ((s + key.last) % 2))
+pub after_sample : (past : List Bool) (key : KeyBits) (s : ℕ) → s < 2 → key.last < 2 → key.down < 2 → KeyRefines past key → KeyRefines ((s == 1) ∷ past) (after key s ((s + key.last) % 2))
 after_sample past key s =
-    let P : ℕ → Type 0 = λ s. key.last < 2 → key.down < 2 → KeyStandsFor past key → KeyStandsFor ((s == 1) ∷ past) (after key s ((s + key.last) % 2)) in
+    let P : ℕ → Type 0 = λ s. key.last < 2 → key.down < 2 → KeyRefines past key → KeyRefines ((s == 1) ∷ past) (after key s ((s + key.last) % 2)) in
     λ l. below_two P (up past key) (pressed past key) s l

@@ -9,9 +9,9 @@ use Rattle.debounce.specs.declared.Scan.{Scan}
 use Rattle.debounce.specs.declared.row.Row.{Row}
 use Rattle.debounce.specs.Scans.{has}
 use Rattle.debounce.specs.Samples.{samples, down, same, equal_latest}
-use Rattle.debounce.specs.ties.Kept.{Kept, row_of, planes_of}
-use Rattle.debounce.specs.ties.Rows.{KeyStandsFor, Sampled, bits_of, parts, rows_of}
-use Rattle.debounce.specs.ties.Stands.{StandsFor}
+use Rattle.debounce.specs.representation.Kept.{Kept, row_of, planes_of}
+use Rattle.debounce.specs.representation.Rows.{KeyRefines, Sampled, bits_of, parts, rows_of}
+use Rattle.debounce.specs.representation.Relation.{Refines}
 
 -- ---- the halves of a word
 
@@ -144,11 +144,11 @@ fed_more scan old mid new flips n before after sample word l s was sample_is sam
       rest = λ pair m. others pair (λ e. omega arith) ∙ s.rest pair (omega arith);
     }
 
-pub stands-fed : (scans : List Scan) (scan : Scan) (old new : Kept) (flips : List ℕ) (n : ℕ) → 3 ≤ n → FedSoFar scan old new flips n → StandsFor scans old → StandsFor (scan ∷ scans) new
+pub refines-fed : (scans : List Scan) (scan : Scan) (old new : Kept) (flips : List ℕ) (n : ℕ) → 3 ≤ n → FedSoFar scan old new flips n → Refines scans old → Refines (scan ∷ scans) new
 unfolding has
-stands-fed scans scan old new flips n all s h = record {
+refines-fed scans scan old new flips n all s h = record {
   each = λ key l. (let f = s.done (key / 32) (omega arith) in
-      subst (λ (b : ℕ). KeyStandsFor ((b == 1) ∷ samples scans key) (bits_of (row_of new (key / 32)) (key % 32))) (f.sample_is key refl)
+      subst (λ (b : ℕ). KeyRefines ((b == 1) ∷ samples scans key) (bits_of (row_of new (key / 32)) (key % 32))) (f.sample_is key refl)
       (f.sampled.each (key % 32) (omega arith) (samples scans key) (h.each key l)));
 }
 
@@ -178,18 +178,18 @@ down_test f d l m =
     (two_of (λ d. (min 1 d == 1) ≡ ((1 == 1) && (d == 1))) refl refl) f l d m
 
 -- whether a key is down, by its bit
-down_is : (scans : List Scan) (kept : Kept) (key : ℕ) → key < 96 → StandsFor scans kept → (bit_at (get_or kept.down (key / 32) 0) (key % 32) == 1) ≡ down scans key
+down_is : (scans : List Scan) (kept : Kept) (key : ℕ) → key < 96 → Refines scans kept → (bit_at (get_or kept.down (key / 32) 0) (key % 32) == 1) ≡ down scans key
 unfolding down
 down_is scans kept key l h = (h.each key l).down
 
-pub flips-fed : (scans : List Scan) (scan : Scan) (old new : Kept) (flips : List ℕ) (n key : ℕ) → 3 ≤ n → FedSoFar scan old new flips n → StandsFor scans old → key < 96
+pub flips-fed : (scans : List Scan) (scan : Scan) (old new : Kept) (flips : List ℕ) (n key : ℕ) → 3 ≤ n → FedSoFar scan old new flips n → Refines scans old → key < 96
     → has (record { rows = rows_of flips }) key ≡ not (same (down scans key) (down (scan ∷ scans) key))
 flips-fed scans scan old new flips n key all s h l =
     let f = s.done (key / 32) (omega arith) in
     let x = get_or old.down (key / 32) 0 in
     let y = get_or new.down (key / 32) 0 in
     has_word flips key l
-    ∙ rw (f.flips_are, bit_at_xor x y (key % 32), ← down_is scans old key l h, ← down_is (scan ∷ scans) new key l (stands-fed scans scan old new flips n all s h))
+    ∙ rw (f.flips_are, bit_at_xor x y (key % 32), ← down_is scans old key l h, ← down_is (scan ∷ scans) new key l (refines-fed scans scan old new flips n all s h))
     (flip_test (bit_at x (key % 32)) (bit_at y (key % 32)) (bit_at-lt x (key % 32)) (bit_at-lt y (key % 32)))
 
 -- the words of those that are up, and of those that are down
@@ -213,7 +213,7 @@ fits_at words x y z (suc (suc (suc n))) l = absurd (omega arith)
 
 pub released-of : (scans : List Scan) (kept : Kept) (flips : List ℕ) (set result : Scan) (key : ℕ) → set.rows ≡ rows_of flips
     → result.rows ≡ rows_of (ups flips kept.down 0 ∷ ups flips kept.down 1 ∷ ups flips kept.down 2 ∷ []) → get_or kept.down 0 0 < 2 ^ 32 → get_or kept.down 1 0 < 2 ^ 32 → get_or kept.down 2 0 < 2 ^ 32
-    → StandsFor scans kept → key < 96
+    → Refines scans kept → key < 96
     → has result key ≡ (has set key && not (down scans key))
 released-of scans kept flips set result key e r x0 x1 x2 h l =
     let x = get_or flips (key / 32) 0 in
@@ -227,7 +227,7 @@ released-of scans kept flips set result key e r x0 x1 x2 h l =
     (up_test (bit_at x (key % 32)) (bit_at d (key % 32)) (bit_at-lt x (key % 32)) (bit_at-lt d (key % 32)))
 
 pub pressed-of : (scans : List Scan) (kept : Kept) (flips : List ℕ) (set result : Scan) (key : ℕ) → set.rows ≡ rows_of flips
-    → result.rows ≡ rows_of (downs_of flips kept.down 0 ∷ downs_of flips kept.down 1 ∷ downs_of flips kept.down 2 ∷ []) → StandsFor scans kept → key < 96
+    → result.rows ≡ rows_of (downs_of flips kept.down 0 ∷ downs_of flips kept.down 1 ∷ downs_of flips kept.down 2 ∷ []) → Refines scans kept → key < 96
     → has result key ≡ (has set key && down scans key)
 pressed-of scans kept flips set result key e r h l =
     let x = get_or flips (key / 32) 0 in
@@ -264,9 +264,9 @@ by_half words key l = elim (cases_lt key 32) [
   ]
 ]
 
-pub planes-stand : (scans : List Scan) (kept : Kept) (plane key : ℕ) → StandsFor scans kept → plane < 3 → key < 96
+pub planes-refine : (scans : List Scan) (kept : Kept) (plane key : ℕ) → Refines scans kept → plane < 3 → key < 96
     → bit_at (get_or (get_or (planes_of kept) plane []) (key / 16) 0) (key % 16) ≡ bit_at (equal_latest (samples scans key)) plane
-planes-stand scans kept zero key h p l = by_half kept.ones key l ∙ (h.each key l).ones
-planes-stand scans kept (suc zero) key h p l = by_half kept.twos key l ∙ (h.each key l).twos
-planes-stand scans kept (suc (suc zero)) key h p l = by_half kept.fours key l ∙ (h.each key l).fours
-planes-stand scans kept (suc (suc (suc n))) key h p l = absurd (omega arith)
+planes-refine scans kept zero key h p l = by_half kept.ones key l ∙ (h.each key l).ones
+planes-refine scans kept (suc zero) key h p l = by_half kept.twos key l ∙ (h.each key l).twos
+planes-refine scans kept (suc (suc zero)) key h p l = by_half kept.fours key l ∙ (h.each key l).fours
+planes-refine scans kept (suc (suc (suc n))) key h p l = absurd (omega arith)

@@ -5,7 +5,7 @@ use Rattle.std.proofs.lemmas.Bool.{cases_lt, eqb-true}
 use Rattle.std.proofs.lemmas.Nat.Bits.{bit_at-zero, bit_at_or}
 use Rattle.debounce.specs.declared.Scan.{Scan}
 use Rattle.debounce.specs.Scans.{has}
-use Rattle.debounce.specs.ties.Rows.{rows_of}
+use Rattle.debounce.specs.representation.Rows.{rows_of}
 use Rattle.debounce.proofs.Fed.{half_bit, parts_first, parts_second, parts_third}
 
 left_clear : (a b i : ℕ) → bit_at (bit_or a b) i ≡ 0 → bit_at a i ≡ 0

@@ -8,7 +8,7 @@ use Rattle.std.proofs.lemmas.List.{get_or-set_same, get_or-set_other}
 use Rattle.std.proofs.lemmas.Nat.Bits.{bit_at-zero, bit_at-trailing_zeros, bit_at_clear_same, bit_at_clear_other}
 use Rattle.debounce.specs.declared.Scan.{Scan}
 use Rattle.debounce.specs.Scans.{has, set_keys}
-use Rattle.debounce.specs.ties.Rows.{rows_of}
+use Rattle.debounce.specs.representation.Rows.{rows_of}
 use Rattle.debounce.proofs.Fed.{has_word}
 
 filter_none : (p : ℕ → Bool) (a n : ℕ) → ((k : ℕ) → a ≤ k → k < a + n → p k ≡ false) → filter p (range_with_len a n) ≡ []

@@ -4,7 +4,7 @@ use Rattle.std.specs.Int.{bit_at}
 use Rattle.std.proofs.lemmas.Nat.{xor_of_32}
 use Rattle.std.proofs.lemmas.Nat.Bits.{bit_at_and, bit_at_or, bit_at_xor, bit_at_not, bit_at-lt}
 use Rattle.debounce.specs.declared.row.Row.{Row}
-use Rattle.debounce.specs.ties.Rows.{Sampled, bits_of}
+use Rattle.debounce.specs.representation.Rows.{Sampled, bits_of}
 use Rattle.debounce.proofs.Counts.{ones_after, twos_after, fours_after, down_after, after_sample}
 
 -- the words after a sample, with what changed and what is decided

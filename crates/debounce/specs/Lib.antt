@@ -1,4 +1,4 @@
 pub mod Scans
 pub mod Samples
 pub mod Windows
-pub mod ties
+pub mod representation

@@ -1,4 +1,4 @@
--- Believed: the samples of a key and its debounced value.
+-- Trusted: the samples of a key and its debounced value.
 use Rattle.std.specs.Prelude.{ℕ, ◌+◌, min, Bool, true, false, List, [], ◌∷◌, map, if◌then◌else◌, nat_le}
 use Rattle.debounce.specs.declared.Scan.{Scan}
 use Rattle.debounce.specs.Scans.{has}

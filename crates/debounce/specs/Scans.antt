@@ -1,4 +1,4 @@
--- Believed: the keys of a scan.
+-- Trusted: the keys of a scan.
 use Rattle.std.specs.Prelude.{ℕ, ◌/◌, ◌%◌, ◌==◌, Bool, List, slice_index}
 use Rattle.std.specs.Int.{bit_at}
 use Rattle.std.specs.List.{filter, range_with_len}

@@ -1,4 +1,4 @@
--- Believed where this crate is called: equal samples in a row that make a value, and the newest ones.
+-- Trusted where this crate is called: equal samples in a row that make a value, and the newest ones.
 use Rattle.std.specs.Prelude.{◌≡◌, ℕ, ◌+◌, ◌<◌, Bool, List, Some, slice_get}
 use Rattle.debounce.specs.Samples.{samples_needed}
 

@@ -47,7 +47,7 @@ pub struct Debouncer {
 
 impl Model for Debouncer {
     ghost use Rattle.std.specs.Prelude.{◌≡◌};
-    ghost use Rattle.debounce.specs.ties.Kept.{Kept, planes_of};
+    ghost use Rattle.debounce.specs.representation.Kept.{Kept, planes_of};
 
     ghost Value = { Kept };
 
@@ -57,11 +57,11 @@ impl Model for Debouncer {
 }
 
 impl Debouncer {
-    ghost use Rattle.debounce.specs.ties.Stands.{StandsFor};
+    ghost use Rattle.debounce.specs.representation.Relation.{Refines};
 
     /// Makes a debouncer before its first scan: every key is up.
     pub fn new() -> Debouncer
-        ensures { StandsFor [] result }
+        ensures { Refines [] result }
     {
         let matrix = Matrix::new();
         let planes = matrix.planes();
@@ -71,10 +71,10 @@ impl Debouncer {
     /// Takes one more scan, one millisecond after the last, and answers which keys it released and
     /// which it pressed.
     pub fn feed(&mut self, scan: Scan) -> Edges
-        ensures stands { (scans : List Scan) → StandsFor scans self.old → StandsFor (scan ∷ scans) self.new }
-        ensures released { (scans : List Scan) → StandsFor scans self.old → (key : ℕ) → key < 96
+        ensures refines { (scans : List Scan) → Refines scans self.old → Refines (scan ∷ scans) self.new }
+        ensures released { (scans : List Scan) → Refines scans self.old → (key : ℕ) → key < 96
             → has result.released key ≡ (down scans key && not (down (scan ∷ scans) key)) }
-        ensures pressed { (scans : List Scan) → StandsFor scans self.old → (key : ℕ) → key < 96
+        ensures pressed { (scans : List Scan) → Refines scans self.old → (key : ℕ) → key < 96
             → has result.pressed key ≡ (down (scan ∷ scans) key && not (down scans key)) }
     {
         let flips = self.matrix.feed(&scan);
@@ -88,7 +88,7 @@ impl Debouncer {
     /// Returns whether a key, one of 0 to 95, is down.
     pub fn is_down(&self, key: u8) -> bool
         requires { key < 96 }
-        ensures { (scans : List Scan) → StandsFor scans self.now → result ≡ down scans key }
+        ensures { (scans : List Scan) → Refines scans self.now → result ≡ down scans key }
     {
         self.matrix.is_down(key)
     }
@@ -96,7 +96,7 @@ impl Debouncer {
     /// Returns the planes of the counts: bit c of row r of plane p is bit p of how many of the latest
     /// samples of key 16 * r + c are equal, counted to five.
     pub fn planes(&self) -> &[[u16; 6]; 3]
-        ensures { (scans : List Scan) → StandsFor scans self.now → (plane key : ℕ) → plane < 3 → key < 96
+        ensures { (scans : List Scan) → Refines scans self.now → (plane key : ℕ) → plane < 3 → key < 96
             → bit_at (slice_index (slice_index_or result.now plane []) (key / 16)) (key % 16)
             ≡ bit_at (equal_latest (samples scans key)) plane }
     {

@@ -16,7 +16,7 @@ pub struct Keys {
 impl Model for Keys {
     ghost use Rattle.std.specs.Prelude.{◌≡◌, ℕ, List, length};
     ghost use Rattle.debounce.specs.Scans.{set_keys};
-    ghost use Rattle.debounce.specs.ties.Rows.{rows_of};
+    ghost use Rattle.debounce.specs.representation.Rows.{rows_of};
 
     ghost Value = { List ℕ };
 
@@ -26,7 +26,7 @@ impl Model for Keys {
 }
 
 impl Keys {
-    ghost use Rattle.debounce.specs.ties.Rows.{rows_of};
+    ghost use Rattle.debounce.specs.representation.Rows.{rows_of};
 
     /// The keys of these words.
     #[inline(always)]

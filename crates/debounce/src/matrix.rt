@@ -4,7 +4,7 @@ ghost use Rattle.std.specs.Prelude.{◌≡◌, ◌≢◌, ◌<◌, ◌/◌, ◌%
 ghost use Rattle.std.specs.Int.{bit_at};
 ghost use Rattle.debounce.specs.Scans.{has};
 ghost use Rattle.debounce.specs.Samples.{down, same};
-ghost use Rattle.debounce.specs.ties.Rows.{rows_of};
+ghost use Rattle.debounce.specs.representation.Rows.{rows_of};
 ghost use Rattle.debounce.specs.declared.Scan.{Scan};
 
 use crate::Scan;
@@ -23,7 +23,7 @@ pub struct Matrix {
 }
 
 impl Model for Matrix {
-    ghost use Rattle.debounce.specs.ties.Kept.{Kept, HasThreePairs};
+    ghost use Rattle.debounce.specs.representation.Kept.{Kept, HasThreePairs};
 
     ghost Value = { Kept };
 
@@ -33,12 +33,12 @@ impl Model for Matrix {
 }
 
 impl Matrix {
-    ghost use Rattle.debounce.specs.ties.Kept.{row_of, planes_of};
-    ghost use Rattle.debounce.specs.ties.Stands.{StandsFor};
+    ghost use Rattle.debounce.specs.representation.Kept.{row_of, planes_of};
+    ghost use Rattle.debounce.specs.representation.Relation.{Refines};
 
     /// Every key up, before the first scan.
     pub fn new() -> Matrix
-        ensures { StandsFor [] result }
+        ensures { Refines [] result }
     {
         Matrix {
             ones: [0; 3],
@@ -52,8 +52,8 @@ impl Matrix {
     /// Takes one more scan, one millisecond after the last, and answers which keys it changed.
     #[inline(always)]
     pub fn feed(&mut self, scan: &Scan) -> KeySet
-        ensures stands { (scans : List Scan) → StandsFor scans self.old → StandsFor (scan.now ∷ scans) self.new }
-        ensures flips { (scans : List Scan) → StandsFor scans self.old → (key : ℕ) → key < 96
+        ensures refines { (scans : List Scan) → Refines scans self.old → Refines (scan.now ∷ scans) self.new }
+        ensures flips { (scans : List Scan) → Refines scans self.old → (key : ℕ) → key < 96
             → has result key ≡ not (same (down scans key) (down (scan.now ∷ scans) key)) }
     {
         let mut flips = [0; 3];
@@ -98,7 +98,7 @@ impl Matrix {
     /// Of the keys that the latest scan changed those that are up.
     #[inline(always)]
     pub fn released(&self, flips: &KeySet) -> KeySet
-        ensures { (scans : List Scan) → StandsFor scans self.now → (key : ℕ) → key < 96
+        ensures { (scans : List Scan) → Refines scans self.now → (key : ℕ) → key < 96
             → has result key ≡ (has flips.now key && not (down scans key)) }
     {
         let [first, second, third] = flips.words();
@@ -109,7 +109,7 @@ impl Matrix {
     /// Of the keys that the latest scan changed those that are down.
     #[inline(always)]
     pub fn pressed(&self, flips: &KeySet) -> KeySet
-        ensures { (scans : List Scan) → StandsFor scans self.now → (key : ℕ) → key < 96
+        ensures { (scans : List Scan) → Refines scans self.now → (key : ℕ) → key < 96
             → has result key ≡ (has flips.now key && down scans key) }
     {
         let [first, second, third] = flips.words();
@@ -120,7 +120,7 @@ impl Matrix {
     /// Whether a key, one of 0 to 95, is down.
     pub fn is_down(&self, key: u8) -> bool
         requires { key < 96 }
-        ensures { (scans : List Scan) → StandsFor scans self.now → result ≡ down scans key }
+        ensures { (scans : List Scan) → Refines scans self.now → result ≡ down scans key }
     {
         has_bit(self.down[key as usize / 32], key % 32)
     }

@@ -2,7 +2,7 @@
 
 ghost use Rattle.std.specs.Prelude.{◌≡◌, ◌/◌, ◌%◌, ◌<◌, ℕ, slice_index};
 ghost use Rattle.std.specs.Int.{bit_at};
-ghost use Rattle.debounce.specs.ties.Rows.{parts};
+ghost use Rattle.debounce.specs.representation.Rows.{parts};
 
 /// What is kept of two rows.
 #[derive(Clone, Copy)]
@@ -20,7 +20,7 @@ pub(crate) struct Row {
 }
 
 impl Row {
-    ghost use Rattle.debounce.specs.ties.Rows.{Sampled};
+    ghost use Rattle.debounce.specs.representation.Rows.{Sampled};
 
     /// These rows after one more sample of their keys. A count starts again at one where a sample
     /// changes, and else rises to five; a key takes its sample where the count is five.

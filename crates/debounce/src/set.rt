@@ -17,7 +17,7 @@ pub struct KeySet {
 impl Model for KeySet {
     ghost use Rattle.std.specs.Prelude.{◌≡◌, length};
     ghost use Rattle.debounce.specs.declared.Scan.{Scan};
-    ghost use Rattle.debounce.specs.ties.Rows.{rows_of};
+    ghost use Rattle.debounce.specs.representation.Rows.{rows_of};
 
     ghost Value = { Scan };
 
@@ -27,7 +27,7 @@ impl Model for KeySet {
 }
 
 impl KeySet {
-    ghost use Rattle.debounce.specs.ties.Rows.{rows_of};
+    ghost use Rattle.debounce.specs.representation.Rows.{rows_of};
 
     /// The keys of these words.
     #[inline(always)]

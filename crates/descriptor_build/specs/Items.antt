@@ -1,4 +1,4 @@
--- Believed where this crate is called: the bytes of a short item (HID 1.11 section 6.2.2.2).
+-- Trusted where this crate is called: the bytes of a short item (HID 1.11 section 6.2.2.2).
 use Rattle.shapes.specs.Shapes.{Bytes}
 use Rattle.std.specs.Prelude.{ℕ, ◌+◌, ◌^◌, min, ℤ, pos, negsuc, Bool, List, [], ◌∷◌, length, take, nat_lt, if◌then◌else◌, flat_map}
 use Rattle.std.specs.Int.{w32, to_le_bytes, cast_unsigned}

@@ -1,4 +1,4 @@
--- Believed: the descriptors that the keyboard serves, byte by byte.
+-- Trusted: the descriptors that the keyboard serves, byte by byte.
 use Rattle.shapes.specs.Shapes.{Bytes}
 use Rattle.std.specs.Prelude.{ℕ, ◌+◌, ◌*◌, [], ◌∷◌, ◌++◌, slice_index}
 

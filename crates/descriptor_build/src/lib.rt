@@ -4,7 +4,7 @@
 //! constants (`DEVICE`, `CONFIGURATION`, `HID`, `SERVED_REPORT`), so that they can be lent to whoever
 //! sends them; `served_report` builds the last one from its list of items.
 //!
-//! Nothing is kept. The promise is that each descriptor is, byte by byte, what the definitions say,
+//! Nothing is kept. The guarantee is that each descriptor is, byte by byte, what the definitions say,
 //! and that the lengths in them are right. `control_ep` lends the constants to the host, and
 //! `parse_lines` prints them.
 #![tactic(auto)]

@@ -7,8 +7,8 @@ use Rattle.descriptor_parse.specs.declared.fault.ParseError.{ParseError}
 use Rattle.descriptor_parse.specs.declared.state.State.{State}
 use Rattle.descriptor_parse.specs.Items.{ItemValue, items_at, item_size}
 use Rattle.descriptor_parse.specs.Faults.{onto, all_items}
-use Rattle.descriptor_parse.specs.ties.StateStands.{StateStands}
-use Rattle.descriptor_parse.specs.ties.Fed.{IsAt, IsFront}
+use Rattle.descriptor_parse.specs.representation.StateRefines.{StateRefines}
+use Rattle.descriptor_parse.specs.representation.Fed.{IsAt, IsFront}
 use Rattle.descriptor_parse.proofs.ItemLemmas.{size_pos, items_more, items_short, items_none}
 use Rattle.descriptor_parse.proofs.ReadingLemmas.{at_start, at_more, at_end}
 
@@ -28,23 +28,23 @@ pub record AreTaken {B : Type 0} (S : List ItemValue → B → Type 0) (first no
   pub at : IsAt text rest offset state
   pub before : List ItemValue
   pub items : all_items text ≡ onto before (items_at offset rest)
-  pub stands : S [] first → S before now
+  pub refines : S [] first → S before now
 
-pub taken_none : {B : Type 0} (S : List ItemValue → B → Type 0) (first : B) (text : List ℕ) (state : State) → StateStands [] state → AreTaken S first first text text 0 state
+pub taken_none : {B : Type 0} (S : List ItemValue → B → Type 0) (first : B) (text : List ℕ) (state : State) → StateRefines [] state → AreTaken S first first text text 0 state
 unfolding all_items
-taken_none S first text state s = record { at = at_more [] [] text 0 state (at_start state s); before = []; items = refl; stands = λ f. f }
+taken_none S first text state s = record { at = at_more [] [] text 0 state (at_start state s); before = []; items = refl; refines = λ f. f }
 
 -- the state stands for just these items
-pub taken_state : {B : Type 0} (S : List ItemValue → B → Type 0) (first now : B) (text rest : List ℕ) (offset : ℕ) (state : State) (t : AreTaken S first now text rest offset state) → StateStands t.before state
+pub taken_state : {B : Type 0} (S : List ItemValue → B → Type 0) (first now : B) (text rest : List ℕ) (offset : ℕ) (state : State) (t : AreTaken S first now text rest offset state) → StateRefines t.before state
 taken_state S first now text rest offset state t =
     let r = at_end text rest offset state t.at in
     let more = items_at offset rest in
     let same : r.before ≡ t.before = append_cancel_left (whole more) r.before t.before (sym (onto_whole more r.before) ∙ sym r.items ∙ t.items ∙ onto_whole more t.before) in
-    subst (λ b. StateStands b state) same r.stands
+    subst (λ b. StateRefines b state) same r.refines
 
 -- an item more
 pub taken_more : {B : Type 0} (S : List ItemValue → B → Type 0) (first old new : B) (text rest : List ℕ) (offset after : ℕ) (before later : State) (item : ItemValue)
-    (t : AreTaken S first old text rest offset before) → IsFront item rest offset → ((items : List ItemValue) → StateStands items before → S items old → S (item ∷ items) new)
+    (t : AreTaken S first old text rest offset before) → IsFront item rest offset → ((items : List ItemValue) → StateRefines items before → S items old → S (item ∷ items) new)
     → IsAt text (drop (item_size rest) rest) after later → AreTaken S first new text (drop (item_size rest) rest) after later
 taken_more S first old new text rest offset after before later item t f takes a =
     let pos : 0 < item_size rest = size_pos rest in
@@ -57,7 +57,7 @@ taken_more S first old new text rest offset after before later item t f takes a 
       at = a;
       before = item ∷ t.before;
       items = t.items ∙ ap (onto t.before) is;
-      stands = λ s. takes t.before (taken_state S first old text rest offset before t) (t.stands s);
+      refines = λ s. takes t.before (taken_state S first old text rest offset before t) (t.refines s);
     }
 
 -- no whole item is left
@@ -68,7 +68,7 @@ taken_all S first now text rest offset state t short s =
       | inl some ↦ ap (onto t.before) (items_short offset rest some short)
       | inr none ↦ ap (onto t.before) (items_none offset rest (omega arith))
     ] in
-    subst (λ items. S items now) (sym (t.items ∙ none)) (t.stands s)
+    subst (λ items. S items now) (sym (t.items ∙ none)) (t.refines s)
 
 -- what holds where it went well
 pub went_well : {A E : Type 0} {P : Type 0} (r : Result A E) → is_err r ≡ false → OnOk r P → P

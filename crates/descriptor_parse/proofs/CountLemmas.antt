@@ -8,10 +8,10 @@ use Rattle.descriptor_parse.specs.declared.field.Field.{Field}
 use Rattle.descriptor_parse.specs.declared.locals.UsageRange.{UsageRange}
 use Rattle.descriptor_parse.specs.Descriptor.{count_up, usage_list, usage_of_place}
 use Rattle.descriptor_parse.specs.Counts.{AreCounts}
-use Rattle.descriptor_parse.specs.ties.CountsStand.{count_with, wrapped_counts, AreWrapped, AreCountsFrom}
-use Rattle.descriptor_parse.specs.ties.Parts.{parts_from, AreEnds}
+use Rattle.descriptor_parse.specs.representation.CountsRefine.{count_with, wrapped_counts, AreWrapped, AreCountsFrom}
+use Rattle.descriptor_parse.specs.representation.Parts.{parts_from, AreEnds}
 use Rattle.descriptor_parse.specs.WellFormed.{IsRange, AreFew}
-use Rattle.descriptor_parse.proofs.PartLemmas.{start_of, ends_within, start_is, field_part, no_field_part}
+use Rattle.descriptor_parse.proofs.PartLemmas.{first_range, ends_within, start_is, field_part, no_field_part}
 use Rattle.descriptor_parse.proofs.UsageLemmas.{length_up, list_cons, list_append, behind, next_range, one_more, within_first, no_usages}
 
 -- ---- the usages up to a range
@@ -149,7 +149,7 @@ counts_more start (end ∷ ends) ranges more counts e l w =
 -- ---- the counts of a field
 
 pub counts_at : (start : ℕ) (ends : List ℕ) (ranges : List (ℕ × ℕ)) (counts : List ℕ) (place end : ℕ) → slice_get ends place ≡ Some end
-    → AreCountsFrom start ends ranges counts → AreCounts (drop (start_of start ends place) (take end ranges)) (drop (start_of start ends place) (take end counts))
+    → AreCountsFrom start ends ranges counts → AreCounts (drop (first_range start ends place) (take end ranges)) (drop (first_range start ends place) (take end counts))
 counts_at start [] ranges counts place end e c = cc
 counts_at start (first ∷ ends) ranges counts zero end e c = let same : first ≡ end = cc in rw same at c.0
 counts_at start (first ∷ ends) ranges counts (suc zero) end e c = counts_at first ends ranges counts zero end e c.1
@@ -179,7 +179,7 @@ pub field_counts : (ends : List ℕ) (ranges : List (ℕ × ℕ)) (counts : List
     → AreCounts (unwrap_or (slice_get (parts_from 0 ends ranges) place) []) (drop start (take end counts))
 field_counts ends ranges counts place start end l e s c =
     let got : slice_get ends place ≡ Some end = slice_get-get_or ends place end l ∙ ap Some (sym e) in
-    let at : start ≡ start_of 0 ends place = s ∙ start_is ends place in
+    let at : start ≡ first_range 0 ends place = s ∙ start_is ends place in
     rw (← field_part ends ranges place start end l e s, at) (counts_at 0 ends ranges counts place end got c)
 
 pub no_field_counts : (ends : List ℕ) (ranges : List (ℕ × ℕ)) (place : ℕ) → length ends ≤ place → AreCounts (unwrap_or (slice_get (parts_from 0 ends ranges) place) []) []

@@ -11,16 +11,16 @@ use Rattle.descriptor_parse.specs.Tags.{tag}
 use Rattle.descriptor_parse.specs.Faults.{shows, fault_at, item_faults, onto, all_items, IsFaultAmong, IsFaultAtEnd, HasFault, IsFaultless, IsFirst, wants_memory, WantsMemoryAt}
 use Rattle.descriptor_parse.specs.Fields.{open_collections}
 use Rattle.descriptor_parse.specs.declared.state.State.{State}
-use Rattle.descriptor_parse.specs.ties.StateStands.{StateStands, IsRefused}
+use Rattle.descriptor_parse.specs.representation.StateRefines.{StateRefines, IsRefused}
 use Rattle.descriptor_parse.specs.Parse.{Refuses}
-use Rattle.descriptor_parse.specs.ties.Parse.{HasReached}
+use Rattle.descriptor_parse.specs.representation.Parse.{HasReached}
 use Rattle.descriptor_parse.specs.declared.field.Kind.{Kind}
 use Rattle.descriptor_parse.specs.declared.reports.Reports.{Reports}
-use Rattle.descriptor_parse.specs.ties.Totals.{bits_in, no_reports}
+use Rattle.descriptor_parse.specs.representation.Totals.{bits_in, no_reports}
 use Rattle.std.proofs.Math.ListN.{get_or-map}
 use Rattle.descriptor_parse.specs.declared.totals.IdReports.{IdReports}
 use Rattle.descriptor_parse.specs.Descriptor.{Describes, bits_of, bits_on}
-use Rattle.descriptor_parse.specs.ties.DescriptorView.{value_of}
+use Rattle.descriptor_parse.specs.representation.DescriptorView.{value_of}
 use Rattle.descriptor_parse.proofs.ItemLemmas.{size_pos, items_none, items_short, items_more, items_next}
 
 -- ---- the least fault of an item
@@ -173,11 +173,11 @@ among_from (suc n) offset text before fault at l f =
 
 -- ---- how far a text was read
 
-pub reach_start : (text : List ℕ) (state : State) → StateStands [] state → HasReached text text 0 state
+pub reach_start : (text : List ℕ) (state : State) → StateRefines [] state → HasReached text text 0 state
 unfolding all_items
 reach_start text state s = record {
   before = [];
-  stands = s;
+  refines = s;
   few = omega arith;
   place = omega arith;
   items = refl;
@@ -187,8 +187,8 @@ reach_start text state s = record {
 
 pub reach_more : (text rest after : List ℕ) (offset : ℕ) (item : ItemValue) (old new : State) (r : HasReached text rest offset old)
     → 0 < length rest → item_size rest ≤ length rest → after ≡ drop (item_size rest) rest → item ≡ front_item offset rest
-    → fault_at r.before item ≡ None → StateStands (item ∷ r.before) new → HasReached text after (offset + (length rest - length after)) new
-reach_more text rest after offset item old new r some whole a e none stands =
+    → fault_at r.before item ≡ None → StateRefines (item ∷ r.before) new → HasReached text after (offset + (length rest - length after)) new
+reach_more text rest after offset item old new r some whole a e none refines =
     let next : items_at offset rest ≡ Ok item ∷ items_at (offset + (length rest - length after)) after = items_next offset rest after item some whole a e in
     let pos : 0 < item_size rest = size_pos rest in
     let len : length after ≡ length rest - item_size rest = ap length a ∙ length-drop (item_size rest) rest in
@@ -196,7 +196,7 @@ reach_more text rest after offset item old new r some whole a e none stands =
     let place = r.place in
     record {
       before = item ∷ r.before;
-      stands = stands;
+      refines = refines;
       few = omega arith;
       place = omega arith;
       items = r.items ∙ ap (onto r.before) next;
@@ -235,7 +235,7 @@ first_by text rest after offset item old r fault some whole a e ends least other
     elim has [
       | inl among ↦ (let f : IsFaultAmong r.before (Ok item ∷ items_at (offset + (length rest - length after)) after) other at = (rw next at (r.faults_left other at among)) in
           elim f [
-            | inl here ↦ (let stands_at : at ≡ item.offset = here.1 in let offset_is : item.offset ≡ offset = ap (λ i. i.offset) e in inr (omega arith, least other here.0))
+            | inl here ↦ (let refines_at : at ≡ item.offset = here.1 in let offset_is : item.offset ≡ offset = ap (λ i. i.offset) e in inr (omega arith, least other here.0))
             | inr later ↦ (let above : offset + (length rest - length after) ≤ at = among_from (length after) _ after _ other at (omega arith) later in inl (omega arith))
           ])
       | inr end ↦ ends other at end
@@ -338,7 +338,7 @@ pub refuse_open : (text rest : List ℕ) (offset : ℕ) (state : State) (r : Has
 refuse_open text rest offset state r none short open_ones =
     let nothing : items_at offset rest ≡ [] = items_none offset rest none in
     let same : all_items text ≡ r.before = r.items ∙ ap (onto r.before) nothing in
-    let more : 0 < open_collections (all_items text) = (rw (same, ← r.stands.collections) open_ones) in
+    let more : 0 < open_collections (all_items text) = (rw (same, ← r.refines.collections) open_ones) in
     refuse_fault text CollectionOpen (length text) (inr (more, refl))
     (λ other at has.
     (elim has [
@@ -356,8 +356,8 @@ pub accept_end : (text rest : List ℕ) (offset : ℕ) (state : State) (r : HasR
 accept_end text rest offset state r none short closed =
     let nothing : items_at offset rest ≡ [] = items_none offset rest none in
     let same : all_items text ≡ r.before = r.items ∙ ap (onto r.before) nothing in
-    let none_open : open_collections (all_items text) ≡ 0 = (rw (same, ← r.stands.collections) closed) in
-    let reports = r.stands.reports in (
+    let none_open : open_collections (all_items text) ≡ 0 = (rw (same, ← r.refines.collections) closed) in
+    let reports = r.refines.reports in (
       λ fault at has.
           (elim has [
             | inl among ↦ (let f : IsFaultAmong r.before [] fault at = (rw nothing at (r.faults_left fault at among)) in absurd f)

@@ -9,9 +9,9 @@ use Rattle.descriptor_parse.specs.declared.tag.GlobalTag.TheVariants.{UsagePage,
 use Rattle.descriptor_parse.specs.Items.{ItemValue}
 use Rattle.descriptor_parse.specs.Tags.{tag, is_push, is_pop}
 use Rattle.descriptor_parse.specs.Globals.{unsigned, in_force}
-use Rattle.descriptor_parse.specs.ties.GlobalsOf.{globals_with, globals_of}
-use Rattle.descriptor_parse.specs.ties.StackStands.{StackStands}
-use Rattle.descriptor_parse.proofs.StackLemmas.{stand_more}
+use Rattle.descriptor_parse.specs.representation.GlobalsOf.{globals_with, globals_of}
+use Rattle.descriptor_parse.specs.representation.StackRefines.{StackRefines}
+use Rattle.descriptor_parse.proofs.StackLemmas.{refine_more}
 
 abbrev pub is_global : Tag → Bool
 is_global (Global g) = true
@@ -51,17 +51,17 @@ globals_same (Local l) item items e n = rw e refl
 globals_same Skipped item items e n = rw e refl
 
 -- what is no Global item leaves them
-pub stand_other : (before : List ItemValue) (item : ItemValue) (globals : Stack Globals) → is_global (tag item) ≡ false
-    → StackStands globals_of before globals → StackStands globals_of (item ∷ before) globals
-stand_other before item globals n s =
-    stand_more globals_of before item globals globals (no_push (tag item) n) (no_pop (tag item) n)
+pub refine_other : (before : List ItemValue) (item : ItemValue) (globals : Stack Globals) → is_global (tag item) ≡ false
+    → StackRefines globals_of before globals → StackRefines globals_of (item ∷ before) globals
+refine_other before item globals n s =
+    refine_more globals_of before item globals globals (no_push (tag item) n) (no_pop (tag item) n)
     (s.now ∙ sym (globals_same (tag item) item (in_force before) refl n)) refl s
 
 -- an item that sets a value
-pub stand_set : (before : List ItemValue) (item : ItemValue) (t : GlobalTag) (old new : Stack Globals) → tag item ≡ Global t
+pub refine_set : (before : List ItemValue) (item : ItemValue) (t : GlobalTag) (old new : Stack Globals) → tag item ≡ Global t
     → is_push (Global t) ≡ false → is_pop (Global t) ≡ false → (t ≡ ReportId → unsigned item.bytes < 256)
     → new.now ≡ globals_with t item.bytes old.now → new.saved.items ≡ old.saved.items
-    → StackStands globals_of before old → StackStands globals_of (item ∷ before) new
-stand_set before item t old new e push pop id set rest s =
-    stand_more globals_of before item old new (ap is_push e ∙ push) (ap is_pop e ∙ pop)
+    → StackRefines globals_of before old → StackRefines globals_of (item ∷ before) new
+refine_set before item t old new e push pop id set rest s =
+    refine_more globals_of before item old new (ap is_push e ∙ push) (ap is_pop e ∙ pop)
     (set ∙ ap (globals_with t item.bytes) s.now ∙ globals_more t item (in_force before) e id) rest s

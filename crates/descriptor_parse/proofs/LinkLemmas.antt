@@ -9,9 +9,9 @@ use Rattle.descriptor_parse.specs.declared.field.Field.{Field}
 use Rattle.descriptor_parse.specs.declared.reports.Link.{Link}
 use Rattle.descriptor_parse.specs.declared.totals.Totals.{Totals}
 use Rattle.descriptor_parse.specs.Readers.{is_of_report}
-use Rattle.descriptor_parse.specs.ties.Totals.{first_in, no_field}
-use Rattle.descriptor_parse.specs.ties.Linked.{nexts_of, first_from, HaveNext, AreLinked, HasFirst}
-use Rattle.descriptor_parse.specs.ties.FieldsLeft.{IsNext}
+use Rattle.descriptor_parse.specs.representation.Totals.{first_in, no_field}
+use Rattle.descriptor_parse.specs.representation.Linked.{nexts_of, first_from, HaveNext, AreLinked, HasFirst}
+use Rattle.descriptor_parse.specs.representation.FieldsLeft.{IsNext}
 
 -- ---- a report's first field from a place on
 

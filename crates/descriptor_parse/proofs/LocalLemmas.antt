@@ -12,8 +12,8 @@ use Rattle.descriptor_parse.specs.Items.{ItemValue}
 use Rattle.descriptor_parse.specs.Tags.{tag, is_main}
 use Rattle.descriptor_parse.specs.Globals.{unsigned}
 use Rattle.descriptor_parse.specs.Locals.{has_page, usage_number, since_main, halves, without_partner, unpaired, range_made, ranges_made, usages_since_main}
-use Rattle.descriptor_parse.specs.ties.Written.{usage_of, usage_on}
-use Rattle.descriptor_parse.specs.ties.LocalsStand.{range_on, half_of, TakesHalf, TakesHalfAt, LocalsStand}
+use Rattle.descriptor_parse.specs.representation.Written.{usage_of, usage_on}
+use Rattle.descriptor_parse.specs.representation.LocalsRefine.{range_on, half_of, TakesHalf, TakesHalfAt, LocalsRefine}
 
 -- two bytes make 16 bits
 pub unsigned_two : (bytes : List ℕ) → ((i : ℕ) → get_or bytes i 0 < 256) → length bytes ≤ 2 → unsigned bytes < 65536
@@ -82,9 +82,9 @@ usages_step page item before = usages_by page (tag item) item before refl
 
 -- ---- what the parser keeps of them
 
-pub stand_new : (locals : Locals) → locals.half ≡ None → locals.usages.items ≡ [] → LocalsStand [] locals
+pub refine_new : (locals : Locals) → locals.half ≡ None → locals.usages.items ≡ [] → LocalsRefine [] locals
 unfolding unpaired usages_since_main
-stand_new locals h u = record { half = h; usages = λ page. ap (map (range_on page)) u }
+refine_new locals h u = record { half = h; usages = λ page. ap (map (range_on page)) u }
 
 ended : (t : Tag) (item : ItemValue) (half : Option ItemValue) (page : ℕ) (earlier : List (ℕ × ℕ)) → is_main t ≡ true
     → (still_unpaired t item half ≡ None) × (with_usages page t item half earlier ≡ [])
@@ -94,9 +94,9 @@ ended (Local l) item half page earlier e = cc
 ended Skipped item half page earlier e = cc
 
 -- a Main item ends them
-pub stand_main : (before : List ItemValue) (item : ItemValue) (locals : Locals) → is_main (tag item) ≡ true
-    → locals.half ≡ None → locals.usages.items ≡ [] → LocalsStand (item ∷ before) locals
-stand_main before item locals m h u = record {
+pub refine_main : (before : List ItemValue) (item : ItemValue) (locals : Locals) → is_main (tag item) ≡ true
+    → locals.half ≡ None → locals.usages.items ≡ [] → LocalsRefine (item ∷ before) locals
+refine_main before item locals m h u = record {
   half = h ∙ sym (ap (option_map half_of) (unpaired_step item before ∙ (ended (tag item) item (unpaired before) 0 [] m).0));
   usages = λ page. ap (map (range_on page)) u ∙ sym (usages_step page item before ∙ (ended (tag item) item (unpaired before) page (usages_since_main page before) m).1);
 }
@@ -115,9 +115,9 @@ silent (Local Delimiter) item half page earlier e = (refl, append-nil earlier)
 silent Skipped item half page earlier e = (refl, append-nil earlier)
 silent _ item half page earlier e = cc
 
-pub stand_silent : (before : List ItemValue) (item : ItemValue) (locals : Locals) → is_silent (tag item) ≡ true
-    → LocalsStand before locals → LocalsStand (item ∷ before) locals
-stand_silent before item locals m s = record {
+pub refine_silent : (before : List ItemValue) (item : ItemValue) (locals : Locals) → is_silent (tag item) ≡ true
+    → LocalsRefine before locals → LocalsRefine (item ∷ before) locals
+refine_silent before item locals m s = record {
   half = s.half ∙ sym (ap (option_map half_of) (unpaired_step item before ∙ (silent (tag item) item (unpaired before) 0 [] m).0));
   usages = λ page. s.usages page ∙ sym (usages_step page item before ∙ (silent (tag item) item (unpaired before) page (usages_since_main page before) m).1);
 }
@@ -128,37 +128,37 @@ more_ranges : (page : ℕ) (old new : List UsageRange) (range : UsageRange) (ear
     → map (range_on page) new ≡ earlier ++ (a, b) ∷ []
 more_ranges page old new range earlier a b e m f g = ap (map (range_on page)) e ∙ map-append (range_on page) old (range ∷ []) ∙ rw (m, f, g) refl
 
-pub stand_usage : (before : List ItemValue) (item : ItemValue) (old new : Locals) → tag item ≡ Local Usage
+pub refine_usage : (before : List ItemValue) (item : ItemValue) (old new : Locals) → tag item ≡ Local Usage
     → new.half ≡ old.half → new.usages.items ≡ old.usages.items ++ record { first = usage_of item.bytes; last = usage_of item.bytes } ∷ []
-    → LocalsStand before old → LocalsStand (item ∷ before) new
-stand_usage before item old new e h u s = record {
+    → LocalsRefine before old → LocalsRefine (item ∷ before) new
+refine_usage before item old new e h u s = record {
   half = h ∙ s.half ∙ (rw (unpaired_step item before, e) refl);
   usages = λ page. more_ranges page _ _ _ _ _ _ u (s.usages page) (number_on page item.bytes) (number_on page item.bytes) ∙ (rw (usages_step page item before, e) refl);
 }
 
 -- a Minimum or Maximum
-pub stand_half : (before : List ItemValue) (item : ItemValue) (minimum : Bool) (half : Option ItemValue) (old new : Locals)
+pub refine_half : (before : List ItemValue) (item : ItemValue) (minimum : Bool) (half : Option ItemValue) (old new : Locals)
     → tag item ≡ Local (cond minimum UsageMinimum UsageMaximum) → unpaired before ≡ half
-    → TakesHalf minimum (usage_of item.bytes) old new → LocalsStand before old → LocalsStand (item ∷ before) new
-stand_half before item true None old new e h t s =
+    → TakesHalf minimum (usage_of item.bytes) old new → LocalsRefine before old → LocalsRefine (item ∷ before) new
+refine_half before item true None old new e h t s =
     let none : old.half ≡ None = s.half ∙ ap (option_map half_of) h in
     let took : TakesHalfAt None true (usage_of item.bytes) old new = rw none at t in record {
       half = took.0 ∙ (rw (unpaired_step item before, e, h) (rw e refl));
       usages = λ page. ap (map (range_on page)) took.1 ∙ s.usages page ∙ (rw (usages_step page item before, e, h) (sym (append-nil (usages_since_main page before))));
     }
-stand_half before item false None old new e h t s =
+refine_half before item false None old new e h t s =
     let none : old.half ≡ None = s.half ∙ ap (option_map half_of) h in
     let took : TakesHalfAt None false (usage_of item.bytes) old new = rw none at t in record {
       half = took.0 ∙ (rw (unpaired_step item before, e, h) (rw e refl));
       usages = λ page. ap (map (range_on page)) took.1 ∙ s.usages page ∙ (rw (usages_step page item before, e, h) (sym (append-nil (usages_since_main page before))));
     }
-stand_half before item true (Some other) old new e h t s =
+refine_half before item true (Some other) old new e h t s =
     let some : old.half ≡ Some (half_of other) = s.half ∙ ap (option_map half_of) h in
     let took : TakesHalfAt (Some (half_of other)) true (usage_of item.bytes) old new = rw some at t in record {
       half = took.0 ∙ (rw (unpaired_step item before, e, h) refl);
       usages = λ page. more_ranges page _ _ _ _ _ _ took.1 (s.usages page) (number_on page item.bytes) (number_on page other.bytes) ∙ (rw (usages_step page item before, e, h) refl);
     }
-stand_half before item false (Some other) old new e h t s =
+refine_half before item false (Some other) old new e h t s =
     let some : old.half ≡ Some (half_of other) = s.half ∙ ap (option_map half_of) h in
     let took : TakesHalfAt (Some (half_of other)) false (usage_of item.bytes) old new = rw some at t in record {
       half = took.0 ∙ (rw (unpaired_step item before, e, h) refl);

@@ -5,7 +5,7 @@ use Rattle.std.proofs.lemmas.Bool.{ne_eqb}
 use Rattle.std.proofs.lemmas.Grind.{get_or_default_zero}
 use Rattle.std.proofs.lemmas.Option.{slice_get-get_or, slice_get_past}
 use Rattle.std.proofs.lemmas.List.{take-append-le, take_all}
-use Rattle.descriptor_parse.specs.ties.Parts.{parts_from, AreEnds}
+use Rattle.descriptor_parse.specs.representation.Parts.{parts_from, AreEnds}
 
 drop_front : (xs ys : List (ℕ × ℕ)) → drop (length xs) (xs ++ ys) ≡ ys
 drop_front [] ys = refl
@@ -37,12 +37,12 @@ nothing_at : (parts : List (List (ℕ × ℕ))) (place : ℕ) → parts ≡ [] �
 nothing_at parts place e = rw e refl
 
 -- where a part starts
-abbrev pub start_of : ℕ → List ℕ → ℕ → ℕ
-start_of start ends zero = start
-start_of start ends (suc place) = get_or ends place 0
+abbrev pub first_range : ℕ → List ℕ → ℕ → ℕ
+first_range start ends zero = start
+first_range start ends (suc place) = get_or ends place 0
 
 pub part_at : (start : ℕ) (ends : List ℕ) (ranges : List (ℕ × ℕ)) (place end : ℕ) → slice_get ends place ≡ Some end
-    → slice_get (parts_from start ends ranges) place ≡ Some (drop (start_of start ends place) (take end ranges))
+    → slice_get (parts_from start ends ranges) place ≡ Some (drop (first_range start ends place) (take end ranges))
 unfolding parts_from
 part_at start [] ranges place end e = cc
 part_at start (first ∷ ends) ranges zero end e = let same : first ≡ end = cc in rw same refl
@@ -55,7 +55,7 @@ no_part start [] ranges place e = nothing_at [] place refl
 no_part start (first ∷ ends) ranges zero e = cc
 no_part start (first ∷ ends) ranges (suc place) e = no_part first ends ranges place e
 
-pub start_is : (ends : List ℕ) (place : ℕ) → (if place == 0 then 0 else slice_index ends (place - 1)) ≡ start_of 0 ends place
+pub start_is : (ends : List ℕ) (place : ℕ) → (if place == 0 then 0 else slice_index ends (place - 1)) ≡ first_range 0 ends place
 start_is ends zero = refl
 start_is ends (suc place) =
     let back : suc place - 1 ≡ place = omega arith in
@@ -78,7 +78,7 @@ unfolding parts_from
 length_parts start [] ranges = refl
 length_parts start (end ∷ ends) ranges = ap suc (length_parts end ends ranges)
 
-ends_at : (start : ℕ) (ends : List ℕ) (len place : ℕ) → AreEnds start ends len → place < length ends → (start_of start ends place ≤ get_or ends place 0) × (get_or ends place 0 ≤ len)
+ends_at : (start : ℕ) (ends : List ℕ) (len place : ℕ) → AreEnds start ends len → place < length ends → (first_range start ends place ≤ get_or ends place 0) × (get_or ends place 0 ≤ len)
 ends_at start [] len place e l = absurd (omega arith)
 ends_at start (end ∷ ends) len zero e l = (e.0, ends_within end ends len e.1)
 ends_at start (end ∷ ends) len (suc zero) e l = ends_at end ends len zero e.1 (omega arith)
@@ -89,8 +89,8 @@ pub field_ends : (ends : List ℕ) (len place start end d : ℕ) → AreEnds 0 e
     → start ≡ (if place == 0 then 0 else slice_index ends (place - 1)) → (start ≤ end) × (end ≤ len)
 field_ends ends len place start end d a l e s =
     let both = ends_at 0 ends len place a l in
-    let order : start_of 0 ends place ≤ get_or ends place 0 = both.0 in
+    let order : first_range 0 ends place ≤ get_or ends place 0 = both.0 in
     let within : get_or ends place 0 ≤ len = both.1 in
-    let at : start ≡ start_of 0 ends place = s ∙ start_is ends place in
+    let at : start ≡ first_range 0 ends place = s ∙ start_is ends place in
     let same : end ≡ get_or ends place 0 = e ∙ get_or_default_zero ends place d l in
     (omega arith, omega arith)

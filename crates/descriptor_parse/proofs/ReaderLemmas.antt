@@ -9,12 +9,12 @@ use Rattle.descriptor_parse.specs.declared.field.Kind.{Kind}
 use Rattle.descriptor_parse.specs.declared.field.Field.{Field}
 use Rattle.descriptor_parse.specs.declared.reports.Link.{Link}
 use Rattle.descriptor_parse.specs.Tags.{same_kind}
-use Rattle.descriptor_parse.specs.ties.Parts.{parts}
+use Rattle.descriptor_parse.specs.representation.Parts.{parts}
 use Rattle.descriptor_parse.specs.Counts.{AreCounts}
-use Rattle.descriptor_parse.specs.ties.CountsStand.{StandTogether}
+use Rattle.descriptor_parse.specs.representation.CountsRefine.{RefineTogether}
 use Rattle.descriptor_parse.specs.Readers.{is_of_report}
-use Rattle.descriptor_parse.specs.ties.Linked.{ends_of, first_from, AreLinked}
-use Rattle.descriptor_parse.specs.ties.FieldsLeft.{fields_left, IsNext}
+use Rattle.descriptor_parse.specs.representation.Linked.{ends_of, first_from, AreLinked}
+use Rattle.descriptor_parse.specs.representation.FieldsLeft.{fields_left, IsNext}
 use Rattle.descriptor_parse.proofs.PartLemmas.{field_part, no_field_part, field_ends, length_parts}
 use Rattle.descriptor_parse.proofs.CountLemmas.{field_counts, no_field_counts}
 use Rattle.descriptor_parse.proofs.LinkLemmas.{first_none, first_cons, drop_next, lands, next_is_of, next_at}
@@ -145,7 +145,7 @@ pub no_link_part : (links : List Link) (ranges : List (ℕ × ℕ)) (place : ℕ
 no_link_part links ranges place l = no_field_part (ends_of links) ranges place (omega (arith, length-map links (λ (x : Link). x.end)))
 
 pub link_counts : (links : List Link) (ranges : List (ℕ × ℕ)) (counts : List ℕ) (place start : ℕ) (link : Link) → place < length links → link ≡ get_or links place link
-    → start ≡ (if place == 0 then 0 else slice_index (ends_of links) (place - 1)) → StandTogether 0 (ends_of links) ranges counts
+    → start ≡ (if place == 0 then 0 else slice_index (ends_of links) (place - 1)) → RefineTogether 0 (ends_of links) ranges counts
     → AreCounts (unwrap_or (slice_get (parts (ends_of links) ranges) place) []) (drop start (take link.end counts))
 link_counts links ranges counts place start link l e s k =
     field_counts (ends_of links) ranges counts place start link.end (omega (arith, length-map links (λ (x : Link). x.end))) (end_at links place link.end link l e) s k.counted
@@ -154,15 +154,15 @@ pub no_link_counts : (links : List Link) (ranges : List (ℕ × ℕ)) (place : �
 no_link_counts links ranges place l = no_field_counts (ends_of links) ranges place (omega (arith, length-map links (λ (x : Link). x.end)))
 
 -- a field's usages and their counts among all
-pub record LinkStands (start end : ℕ) (ranges : List (ℕ × ℕ)) (counts : List ℕ) : Type 0 where
+pub record LinkRefines (start end : ℕ) (ranges : List (ℕ × ℕ)) (counts : List ℕ) : Type 0 where
   pub order : start ≤ end
   pub within : end ≤ length ranges
   pub within_counts : end ≤ length counts
   pub counted : AreCounts (drop start (take end ranges)) (drop start (take end counts))
 
-pub link_stands : (links : List Link) (ranges : List (ℕ × ℕ)) (counts : List ℕ) (place start : ℕ) (link : Link) → place < length links → link ≡ get_or links place link
-    → start ≡ (if place == 0 then 0 else slice_index (ends_of links) (place - 1)) → StandTogether 0 (ends_of links) ranges counts → LinkStands start link.end ranges counts
-link_stands links ranges counts place start link l e s k =
+pub link_refines : (links : List Link) (ranges : List (ℕ × ℕ)) (counts : List ℕ) (place start : ℕ) (link : Link) → place < length links → link ≡ get_or links place link
+    → start ≡ (if place == 0 then 0 else slice_index (ends_of links) (place - 1)) → RefineTogether 0 (ends_of links) ranges counts → LinkRefines start link.end ranges counts
+link_refines links ranges counts place start link l e s k =
     let long : length (ends_of links) ≡ length links = length-map links (λ (x : Link). x.end) in
     let both = field_ends (ends_of links) (length ranges) place start link.end link.end k.rising (omega arith) (end_at links place link.end link l e) s in
     let within : link.end ≤ length ranges = both.1 in

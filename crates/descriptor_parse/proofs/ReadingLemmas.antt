@@ -18,16 +18,16 @@ use Rattle.descriptor_parse.specs.declared.reading.Reading.{Reading}
 use Rattle.descriptor_parse.specs.Items.{ItemValue, items_at, item_size, front_item, data_size, head_size}
 use Rattle.descriptor_parse.specs.Faults.{fault_at, all_items, IsFaultAmong, IsFaultAtEnd, IsFirst, IsFirstFault, IsFaultless, MayWantMemory}
 use Rattle.descriptor_parse.specs.Descriptor.{DescriptorValue, Describes, bits_on, bits_of, no_bits}
-use Rattle.descriptor_parse.specs.ties.DescriptorView.{value_of}
-use Rattle.descriptor_parse.specs.ties.Linked.{ends_of}
-use Rattle.descriptor_parse.specs.ties.ReportsStand.{CanLink}
+use Rattle.descriptor_parse.specs.representation.DescriptorView.{value_of}
+use Rattle.descriptor_parse.specs.representation.Linked.{ends_of}
+use Rattle.descriptor_parse.specs.representation.ReportsRefine.{CanLink}
 use Rattle.descriptor_parse.specs.WellFormed.{FitsField}
-use Rattle.descriptor_parse.specs.ties.CountsStand.{StandTogether}
-use Rattle.descriptor_parse.specs.ties.StateStands.{StateStands, Takes, IsRefused}
+use Rattle.descriptor_parse.specs.representation.CountsRefine.{RefineTogether}
+use Rattle.descriptor_parse.specs.representation.StateRefines.{StateRefines, Takes, IsRefused}
 use Rattle.descriptor_parse.specs.Parse.{Refuses, MayGoOn, is_of_the_end, Answers, IsOfTheText, AreSame}
-use Rattle.descriptor_parse.specs.ties.Parse.{HasReached}
+use Rattle.descriptor_parse.specs.representation.Parse.{HasReached}
 use Rattle.descriptor_parse.specs.Fed.{RefusesAll}
-use Rattle.descriptor_parse.specs.ties.Fed.{AreBytes, IsAt, IsFront, IsReading, WasFed}
+use Rattle.descriptor_parse.specs.representation.Fed.{AreBytes, IsAt, IsFront, IsReading, WasFed}
 use Rattle.descriptor_parse.proofs.PartLemmas.{length_parts}
 use Rattle.descriptor_parse.proofs.CountLemmas.{exact_from}
 use Rattle.descriptor_parse.proofs.WellLemmas.{well_formed}
@@ -89,7 +89,7 @@ moved_more all part rest after moved left byte inv e m l = rw (m, l, append_asso
 
 -- ---- how far a text was read, whatever follows
 
-pub at_start : (state : State) → StateStands [] state → IsAt [] [] 0 state
+pub at_start : (state : State) → StateRefines [] state → IsAt [] [] 0 state
 at_start state s = record { reached = λ more. reach_start more state s; within = omega arith }
 
 pub at_more : (text rest piece : List ℕ) (offset : ℕ) (state : State) → IsAt text rest offset state → IsAt (text ++ piece) (rest ++ piece) offset state
@@ -124,16 +124,16 @@ still_whole item rest more offset f =
 
 -- the item at the front was taken
 reached_after : (text rest more : List ℕ) (offset : ℕ) (item : ItemValue) (old new : State) → IsAt text rest offset old → IsFront item rest offset
-    → ((before : List ItemValue) → StateStands before old → length before ≤ 4096 → Takes before item new)
+    → ((before : List ItemValue) → StateRefines before old → length before ≤ 4096 → Takes before item new)
     → HasReached (text ++ more) (drop (item_size rest) rest ++ more) (offset + item_size rest) new
 reached_after text rest more offset item old new a f takes =
     let r = a.reached more in
     let w = still_whole item rest more offset f in
     let few : length r.before ≤ offset = r.few in
     let within : offset ≤ 4096 = a.within in
-    let took = takes r.before r.stands (omega arith) in
+    let took = takes r.before r.refines (omega arith) in
     let next : HasReached (text ++ more) (drop (item_size rest) rest ++ more) (offset + (length (rest ++ more) - length (drop (item_size rest) rest ++ more))) new =
-    reach_more (text ++ more) (rest ++ more) (drop (item_size rest) rest ++ more) offset item old new r w.some w.whole w.after w.is took.clean took.stands in
+    reach_more (text ++ more) (rest ++ more) (drop (item_size rest) rest ++ more) offset item old new r w.some w.whole w.after w.is took.clean took.refines in
     let pos : 0 < item_size rest = size_pos rest in
     let whole : item_size rest ≤ length rest = f.whole in
     let e : offset + (length (rest ++ more) - length (drop (item_size rest) rest ++ more)) ≡ offset + item_size rest =
@@ -142,7 +142,7 @@ reached_after text rest more offset item old new a f takes =
 
 pub at_after : (text rest : List ℕ) (offset after size : ℕ) (item : ItemValue) (old new : State) → IsAt text rest offset old → IsFront item rest offset
     → size ≡ item_size rest → after ≡ offset + size → after ≤ 4096
-    → ((before : List ItemValue) → StateStands before old → length before ≤ 4096 → Takes before item new)
+    → ((before : List ItemValue) → StateRefines before old → length before ≤ 4096 → Takes before item new)
     → IsAt text (drop size rest) after new
 at_after text rest offset after size item old new a f s e l takes = record {
   reached = λ more. rw (e, s) (reached_after text rest more offset item old new a f takes);
@@ -151,12 +151,12 @@ at_after text rest offset after size item old new a f s e l takes = record {
 
 -- an item is refused
 pub refused_item : (text rest : List ℕ) (offset : ℕ) (item : ItemValue) (old : State) (fault : ParseFault) → IsAt text rest offset old → IsFront item rest offset
-    → offset < 4096 → ((before : List ItemValue) → StateStands before old → IsRefused before item fault)
+    → offset < 4096 → ((before : List ItemValue) → StateRefines before old → IsRefused before item fault)
     → RefusesAll text (record { fault = fault; offset = offset })
 refused_item text rest offset item old fault a f l refused = λ more.
     let r = a.reached more in
     let w = still_whole item rest more offset f in
-    let why = refused r.before r.stands in
+    let why = refused r.before r.refines in
     record {
       first = λ n. (refuse_item (text ++ more) (rest ++ more) (drop (item_size rest) rest ++ more) offset item old r fault w.some (omega arith) w.whole w.after w.is (why.first n)).first n;
       memory = λ m. (refuse_growth (text ++ more) (rest ++ more) (drop (item_size rest) rest ++ more) offset item old r w.some l w.whole w.after w.is (why.clean m) (why.memory m)).memory refl;
@@ -164,16 +164,16 @@ refused_item text rest offset item old fault a f l refused = λ more.
 
 -- an item that reaches past the greatest length shows a fault
 pub last_item : (text rest : List ℕ) (item : ItemValue) (old : State) (fault : ParseFault) (offset : ℕ) → IsAt text rest offset old → IsFront item rest offset
-    → ((before : List ItemValue) → StateStands before old → fault_at before item ≡ Some fault)
+    → ((before : List ItemValue) → StateRefines before old → fault_at before item ≡ Some fault)
     → RefusesAll text (record { fault = fault; offset = offset })
 last_item text rest item old fault offset a f shows = λ more.
     let r = a.reached more in
     let w = still_whole item rest more offset f in
-    refuse_item (text ++ more) (rest ++ more) (drop (item_size rest) rest ++ more) offset item old r fault w.some a.within w.whole w.after w.is (shows r.before r.stands)
+    refuse_item (text ++ more) (rest ++ more) (drop (item_size rest) rest ++ more) offset item old r fault w.some a.within w.whole w.after w.is (shows r.before r.refines)
 
 -- an item that reaches past the greatest length shows none
 pub last_clean : (text rest : List ℕ) (item : ItemValue) (old : State) (offset : ℕ) → IsAt text rest offset old → IsFront item rest offset → 4096 < offset + item_size rest
-    → ((before : List ItemValue) → StateStands before old → fault_at before item ≡ None)
+    → ((before : List ItemValue) → StateRefines before old → fault_at before item ≡ None)
     → RefusesAll text (record { fault = TooLong; offset = 4096 })
 last_clean text rest item old offset a f past clean = λ more.
     let r = a.reached more in
@@ -181,7 +181,7 @@ last_clean text rest item old offset a f past clean = λ more.
     let same : item_size (rest ++ more) ≡ item_size rest = same_size rest more f.whole in
     let place : offset + length (rest ++ more) ≡ length (text ++ more) = r.place in
     let whole : item_size (rest ++ more) ≤ length (rest ++ more) = w.whole in
-    refuse_past (text ++ more) (rest ++ more) (drop (item_size rest) rest ++ more) offset item old r (omega arith) (omega arith) w.some w.whole w.after w.is (clean r.before r.stands)
+    refuse_past (text ++ more) (rest ++ more) (drop (item_size rest) rest ++ more) offset item old r (omega arith) (omega arith) w.some w.whole w.after w.is (clean r.before r.refines)
 
 -- ---- the end
 
@@ -252,11 +252,11 @@ ends_known text rest offset state bytes a none closed =
 
 -- and its counts stand beside its ranges
 pub ends_counted : (text rest : List ℕ) (offset : ℕ) (state : State) → AreBytes text → IsAt text rest offset state → length rest ≡ 0 → state.collections ≡ 0
-    → StandTogether 0 (ends_of state.reports.links.items) state.reports.ranges.items state.reports.counts.items
+    → RefineTogether 0 (ends_of state.reports.links.items) state.reports.ranges.items state.reports.counts.items
 ends_counted text rest offset state bytes a none closed =
     let k = ends_known text rest offset state bytes a none closed in
     let well = well_formed k.0 (value_of state.reports) k.1 k.2 k.3 k.4 in
-    let reports = (at_end text rest offset state a).stands.reports in
+    let reports = (at_end text rest offset state a).refines.reports in
     record {
       rising = reports.ends;
       as_many = reports.as_many_counts;
@@ -296,7 +296,7 @@ ends_linkable text rest offset state bytes a none closed =
       ids = All-weaker (FitsField d) (λ f. f.id < length state.reports.totals.by_id.items)
           (λ f fits. id_within state.reports.totals.by_id.items f.kind f.id (bits_of d f.kind f.id) refl (some_bits f.bit f.size f.count (bits_of d f.kind f.id) fits.size_some fits.count_some fits.bits))
           state.reports.fields.items well.fields;
-      unlinked = (at_end text rest offset state a).stands.reports.unlinked;
+      unlinked = (at_end text rest offset state a).refines.reports.unlinked;
     }
 
 -- what a test on a length says
@@ -372,14 +372,14 @@ bytes_append [] ys a b = b
 bytes_append (x ∷ xs) ys a b = λ i. byte_append x xs ys a b i
 
 pub fed_nothing : (reading : Reading) → IsReading [] reading → WasFed [] reading None
-fed_nothing reading s = record { bytes = λ i. omega arith; going = λ n. s; told = λ e t. cc }
+fed_nothing reading s = record { bytes = λ i. omega arith; going = λ n. s; reported = λ e t. cc }
 
 pub fed_on : (text piece : List ℕ) (old new : Reading) (refused : Option ParseError) → refused ≡ None → AreBytes piece → WasFed text old refused
     → (IsReading text old → IsReading (text ++ piece) new) → WasFed (text ++ piece) new refused
 fed_on text piece old new refused none bytes s more = record {
   bytes = bytes_append text piece s.bytes bytes;
   going = λ n. more (s.going n);
-  told = λ e t. cc;
+  reported = λ e t. cc;
 }
 
 pub fed_off : (text piece : List ℕ) (old new : Reading) (refused : Option ParseError) (e : ParseError) → refused ≡ None → AreBytes piece → WasFed text old refused
@@ -387,7 +387,7 @@ pub fed_off : (text piece : List ℕ) (old new : Reading) (refused : Option Pars
 fed_off text piece old new refused e none bytes s more = record {
   bytes = bytes_append text piece s.bytes bytes;
   going = λ n. cc;
-  told = λ f t. (let same : e ≡ f = cc in rw (← same) (more (s.going none)));
+  reported = λ f t. (let same : e ≡ f = cc in rw (← same) (more (s.going none)));
 }
 
 pub fed_still : (text piece : List ℕ) (reading : Reading) (refused : Option ParseError) (e : ParseError) → refused ≡ Some e → AreBytes piece → WasFed text reading refused
@@ -395,7 +395,7 @@ pub fed_still : (text piece : List ℕ) (reading : Reading) (refused : Option Pa
 fed_still text piece reading refused e some bytes s = record {
   bytes = bytes_append text piece s.bytes bytes;
   going = λ n. cc;
-  told = λ f t more. rw (append_assoc text piece more) (s.told f t (piece ++ more));
+  reported = λ f t more. rw (append_assoc text piece more) (s.reported f t (piece ++ more));
 }
 
 -- ---- answers, clause by clause

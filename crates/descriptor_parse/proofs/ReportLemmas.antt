@@ -17,21 +17,21 @@ use Rattle.descriptor_parse.specs.Tags.{tag, same_kind, is_data, is_data_of, is_
 use Rattle.descriptor_parse.specs.Globals.{unsigned, in_force, usage_page, report_size, report_count, report_id}
 use Rattle.descriptor_parse.specs.Locals.{usages_since_main}
 use Rattle.descriptor_parse.specs.Fields.{is_constant, is_field, declared_field, fields, field_usages, report_bits, has_bare_data}
-use Rattle.descriptor_parse.specs.ties.Totals.{bits_in, first_in, no_field}
-use Rattle.descriptor_parse.specs.ties.Parts.{parts_from, parts, AreEnds}
-use Rattle.descriptor_parse.specs.ties.Linked.{ends_of}
-use Rattle.descriptor_parse.specs.ties.CountsStand.{wrapped_counts, AreWrapped}
+use Rattle.descriptor_parse.specs.representation.Totals.{bits_in, first_in, no_field}
+use Rattle.descriptor_parse.specs.representation.Parts.{parts_from, parts, AreEnds}
+use Rattle.descriptor_parse.specs.representation.Linked.{ends_of}
+use Rattle.descriptor_parse.specs.representation.CountsRefine.{wrapped_counts, AreWrapped}
 use Rattle.descriptor_parse.proofs.PartLemmas.{ends_more, parts_more}
 use Rattle.descriptor_parse.proofs.CountLemmas.{wrapped_len, counts_more}
-use Rattle.descriptor_parse.specs.ties.GlobalsOf.{globals_of}
-use Rattle.descriptor_parse.specs.ties.LocalsStand.{LocalsStand, range_on}
-use Rattle.descriptor_parse.specs.ties.ReportsStand.{declares, field_by, Declares, FitsData, ReportsStand}
+use Rattle.descriptor_parse.specs.representation.GlobalsOf.{globals_of}
+use Rattle.descriptor_parse.specs.representation.LocalsRefine.{LocalsRefine, range_on}
+use Rattle.descriptor_parse.specs.representation.ReportsRefine.{declares, field_by, Declares, FitsData, ReportsRefine}
 
-pub stand_new : (reports : Reports) → ((kind : Kind) (id : ℕ) → bits_in reports.totals kind id ≡ 0)
+pub refine_new : (reports : Reports) → ((kind : Kind) (id : ℕ) → bits_in reports.totals kind id ≡ 0)
     → ((kind : Kind) (id : ℕ) → first_in reports.totals kind id ≡ no_field) → reports.fields.items ≡ []
-    → ends_of reports.links.items ≡ [] → reports.ranges.items ≡ [] → reports.counts.items ≡ [] → reports.has_ids ≡ false → reports.has_bare ≡ false → ReportsStand [] reports
+    → ends_of reports.links.items ≡ [] → reports.ranges.items ≡ [] → reports.counts.items ≡ [] → reports.has_ids ≡ false → reports.has_bare ≡ false → ReportsRefine [] reports
 unfolding report_bits fields field_usages has_bare_data parts_from
-stand_new reports b u f n r c i h = record {
+refine_new reports b u f n r c i h = record {
   bits = b;
   unlinked = u;
   small = λ kind id. omega arith;
@@ -63,12 +63,12 @@ no_id (Global ReportId) n = cc
 no_id _ n = refl
 
 -- what is no data item leaves all but the use of IDs
-pub stand_no_data : (before : List ItemValue) (item : ItemValue) (old new : Reports) → is_data (tag item) ≡ false
+pub refine_no_data : (before : List ItemValue) (item : ItemValue) (old new : Reports) → is_data (tag item) ≡ false
     → new.totals ≡ old.totals → new.fields.items ≡ old.fields.items → ends_of new.links.items ≡ ends_of old.links.items → new.ranges.items ≡ old.ranges.items
     → new.counts.items ≡ old.counts.items → new.has_ids ≡ (is_report_id (tag item) || old.has_ids) → new.has_bare ≡ old.has_bare
-    → ReportsStand before old → ReportsStand (item ∷ before) new
+    → ReportsRefine before old → ReportsRefine (item ∷ before) new
 unfolding report_bits fields field_usages has_bare_data
-stand_no_data before item old new d t f n r c i h s = record {
+refine_no_data before item old new d t f n r c i h s = record {
   bits = λ kind id. ap (λ x. bits_in x kind id) t ∙ s.bits kind id ∙ (rw (no_data_of kind (tag item) d) refl);
   small = λ kind id. rw (no_data_of kind (tag item) d) (let l = s.small kind id in omega arith);
   fields = f ∙ s.fields ∙ (rw d refl);
@@ -81,10 +81,10 @@ stand_no_data before item old new d t f n r c i h s = record {
   has_bare = h ∙ s.has_bare ∙ (rw d refl);
 }
 
-pub stand_neutral : (before : List ItemValue) (item : ItemValue) (reports : Reports) → is_neutral (tag item) ≡ true
-    → ReportsStand before reports → ReportsStand (item ∷ before) reports
-stand_neutral before item reports n s =
-    stand_no_data before item reports reports (no_data (tag item) n) refl refl refl refl refl (rw (no_id (tag item) n) refl) refl s
+pub refine_neutral : (before : List ItemValue) (item : ItemValue) (reports : Reports) → is_neutral (tag item) ≡ true
+    → ReportsRefine before reports → ReportsRefine (item ∷ before) reports
+refine_neutral before item reports n s =
+    refine_no_data before item reports reports (no_data (tag item) n) refl refl refl refl refl (rw (no_id (tag item) n) refl) refl s
 
 -- a product of at most 1,024 times 1,024
 product_small : (a b : ℕ) → a ≤ 1024 → b ≤ 1024 → a * b ≤ 1048576
@@ -147,7 +147,7 @@ within before item g f fits d =
     (omega arith, omega arith)
 
 -- the usages of all fields, with those of one more if it is one
-record PartsStand (b : Bool) (usages : List (List (ℕ × ℕ))) (more : List (ℕ × ℕ)) (reports : Reports) : Type 0 where
+record PartsRefine (b : Bool) (usages : List (List (ℕ × ℕ))) (more : List (ℕ × ℕ)) (reports : Reports) : Type 0 where
   ends : AreEnds 0 (ends_of reports.links.items) (length reports.ranges.items)
   ranges : parts (ends_of reports.links.items) reports.ranges.items ≡ cond b (usages ++ more ∷ []) usages
   as_many : length reports.counts.items ≡ length reports.ranges.items
@@ -159,7 +159,7 @@ parts_with : (b : Bool) (usages : List (List (ℕ × ℕ))) (page : ℕ) (locals
     → new.counts.items ≡ cond b (old.counts.items ++ wrapped_counts 0 (map (range_on page) locals.usages.items)) old.counts.items
     → length old.counts.items ≡ length old.ranges.items → AreWrapped 0 (ends_of old.links.items) old.ranges.items old.counts.items
     → AreEnds 0 (ends_of old.links.items) (length old.ranges.items) → parts (ends_of old.links.items) old.ranges.items ≡ usages
-    → PartsStand b usages (map (range_on page) locals.usages.items) new
+    → PartsRefine b usages (map (range_on page) locals.usages.items) new
 parts_with true usages page locals old new r n c many counts ends same =
     let more = map (range_on page) locals.usages.items in
     let len : length more ≡ length locals.usages.items = length-map locals.usages.items (range_on page) in
@@ -179,8 +179,8 @@ parts_with false usages page locals old new r n c many counts ends same = record
 }
 
 -- a data item within the limits
-pub stand_data : (before : List ItemValue) (item : ItemValue) (kind : Kind) (g : Globals) (locals : Locals) (old mid new : Reports) (bit product : ℕ)
-    → tag item ≡ Main (Data kind) → g ≡ globals_of (in_force before) → LocalsStand before locals → FitsData before item → length before ≤ 4096
+pub refine_data : (before : List ItemValue) (item : ItemValue) (kind : Kind) (g : Globals) (locals : Locals) (old mid new : Reports) (bit product : ℕ)
+    → tag item ≡ Main (Data kind) → g ≡ globals_of (in_force before) → LocalsRefine before locals → FitsData before item → length before ≤ 4096
     → product ≡ min (g.size * g.count) (2 ^ 64 - 1) → bit ≡ bits_in old.totals kind g.id
     → ((k : Kind) (i : ℕ) → bits_in old.totals k i < 2 ^ 64 → bits_in mid.totals k i
     ≡ cond (same_kind k kind && g.id == i) (min (2 ^ 64 - 1) (bits_in old.totals k i + product)) (bits_in old.totals k i))
@@ -188,9 +188,9 @@ pub stand_data : (before : List ItemValue) (item : ItemValue) (kind : Kind) (g :
     → mid.fields.items ≡ old.fields.items → ends_of mid.links.items ≡ ends_of old.links.items → mid.ranges.items ≡ old.ranges.items → mid.counts.items ≡ old.counts.items
     → mid.has_ids ≡ old.has_ids → mid.has_bare ≡ (old.has_bare || g.id == 0)
     → Declares kind bit (unsigned item.bytes) g locals mid new
-    → ReportsStand before old → ReportsStand (item ∷ before) new
+    → ReportsRefine before old → ReportsRefine (item ∷ before) new
 unfolding fields field_usages has_bare_data
-stand_data before item kind g locals old mid new bit product e f ls fits few p was add first fs ns rs cs ids bare d s =
+refine_data before item kind g locals old mid new bit product e f ls fits few p was add first fs ns rs cs ids bare d s =
     let field : declares (unsigned item.bytes) g ≡ is_field before item = declares_field before item kind g e f in
     let more : (k : Kind) (i : ℕ) → (bits_in mid.totals k i ≡ report_bits k i (item ∷ before)) × (report_bits k i (item ∷ before) ≤ 2 ^ 20 * length (item ∷ before)) =
     λ k i. (let small : report_bits k i before ≤ 2 ^ 20 * length before = s.small k i in
@@ -200,7 +200,7 @@ stand_data before item kind g locals old mid new bit product e f ls fits few p w
     let page : g.page ≡ usage_page before = ap (λ x. x.page) f in
     let from : bit ≡ report_bits kind (report_id before) before = was ∙ s.bits kind g.id ∙ ap (λ i. report_bits kind i before) id in
     let declared : field_by kind bit (unsigned item.bytes) g ≡ declared_field before item = same_field before item kind bit g e f from in
-    let usages_stand : PartsStand (declares (unsigned item.bytes) g) (field_usages before) (map (range_on g.page) locals.usages.items) new =
+    let usages_refine : PartsRefine (declares (unsigned item.bytes) g) (field_usages before) (map (range_on g.page) locals.usages.items) new =
     parts_with (declares (unsigned item.bytes) g) (field_usages before) g.page locals mid new d.ranges d.ends d.counts
     (rw (cs, rs) s.as_many_counts) (rw (ns, rs, cs) s.counts) (rw (ns, rs) s.ends) (rw (ns, rs) s.ranges) in
     let usages : map (range_on g.page) locals.usages.items ≡ usages_since_main (usage_page before) before = ls.usages g.page ∙ ap (λ p. usages_since_main p before) page in
@@ -209,27 +209,27 @@ stand_data before item kind g locals old mid new bit product e f ls fits few p w
       small = λ k i. (more k i).1;
       unlinked = λ k i. ap (λ t. first_in t k i) d.totals ∙ first k i ∙ s.unlinked k i;
       fields = d.fields (within before item g f fits) ∙ (rw (field, fs, s.fields, declared) refl);
-      ends = usages_stand.ends;
-      ranges = usages_stand.ranges ∙ (rw (field, usages) refl);
-      as_many_counts = usages_stand.as_many;
-      counts = usages_stand.counts;
+      ends = usages_refine.ends;
+      ranges = usages_refine.ranges ∙ (rw (field, usages) refl);
+      as_many_counts = usages_refine.as_many;
+      counts = usages_refine.counts;
       has_ids = d.has_ids ∙ ids ∙ s.has_ids ∙ (rw e refl);
       has_bare = d.has_bare ∙ bare ∙ ap (λ b. b || g.id == 0) s.has_bare ∙ or_bare (has_bare_data before) (g.id == 0) ∙ (rw (e, f) refl);
     }
 
 -- a Report ID
-pub stand_noted_id : (before : List ItemValue) (item : ItemValue) (t : GlobalTag) (old new : Reports) → tag item ≡ Global t → t ≡ ReportId
+pub refine_noted_id : (before : List ItemValue) (item : ItemValue) (t : GlobalTag) (old new : Reports) → tag item ≡ Global t → t ≡ ReportId
     → new.totals ≡ old.totals → new.fields.items ≡ old.fields.items → ends_of new.links.items ≡ ends_of old.links.items → new.ranges.items ≡ old.ranges.items
-    → new.counts.items ≡ old.counts.items → new.has_ids ≡ true → new.has_bare ≡ old.has_bare → ReportsStand before old → ReportsStand (item ∷ before) new
-stand_noted_id before item t old new e id a b n c k d f s =
+    → new.counts.items ≡ old.counts.items → new.has_ids ≡ true → new.has_bare ≡ old.has_bare → ReportsRefine before old → ReportsRefine (item ∷ before) new
+refine_noted_id before item t old new e id a b n c k d f s =
     let is : tag item ≡ Global ReportId = e ∙ ap Global id in
-    stand_no_data before item old new (ap is_data is) a b n c k (d ∙ (rw is refl)) f s
+    refine_no_data before item old new (ap is_data is) a b n c k (d ∙ (rw is refl)) f s
 
 neutral_global : (t : GlobalTag) → (t ≡ ReportId → ⊥) → is_neutral (Global t) ≡ true
 neutral_global ReportId n = absurd (n refl)
 neutral_global _ n = refl
 
 -- any other Global item
-pub stand_noted : (before : List ItemValue) (item : ItemValue) (t : GlobalTag) (reports : Reports) → tag item ≡ Global t → (t ≡ ReportId → ⊥)
-    → ReportsStand before reports → ReportsStand (item ∷ before) reports
-stand_noted before item t reports e n s = stand_neutral before item reports (ap is_neutral e ∙ neutral_global t n) s
+pub refine_noted : (before : List ItemValue) (item : ItemValue) (t : GlobalTag) (reports : Reports) → tag item ≡ Global t → (t ≡ ReportId → ⊥)
+    → ReportsRefine before reports → ReportsRefine (item ∷ before) reports
+refine_noted before item t reports e n s = refine_neutral before item reports (ap is_neutral e ∙ neutral_global t n) s

@@ -10,7 +10,7 @@ use Rattle.descriptor_parse.specs.declared.tag.GlobalTag.TheVariants.{Push, Pop}
 use Rattle.descriptor_parse.specs.Items.{ItemValue}
 use Rattle.descriptor_parse.specs.Tags.{tag, is_push, is_pop}
 use Rattle.descriptor_parse.specs.Globals.{before_push, in_force, pushes}
-use Rattle.descriptor_parse.specs.ties.StackStands.{saved_of, StackStands}
+use Rattle.descriptor_parse.specs.representation.StackRefines.{saved_of, StackRefines}
 
 -- ---- the items in force
 
@@ -60,7 +60,7 @@ length_saved values (item ∷ before) =
       | false ↦ length_saved values before
     ]
 
-pub none_saved : {T : Type 0} (values : List ItemValue → T) (before : List ItemValue) (stack : Stack T) → StackStands values before stack → length stack.saved.items ≡ pushes before
+pub none_saved : {T : Type 0} (values : List ItemValue → T) (before : List ItemValue) (stack : Stack T) → StackRefines values before stack → length stack.saved.items ≡ pushes before
 none_saved values before stack s = ap length s.saved ∙ length_saved values (in_force before)
 
 -- the last are those of the latest Push
@@ -95,32 +95,32 @@ same_last (a ∷ xs) (b ∷ ys) x y e =
 
 -- ---- what an item changes
 
-pub stand_new : {T : Type 0} (values : List ItemValue → T) (stack : Stack T) → stack.now ≡ values [] → stack.saved.items ≡ [] → StackStands values [] stack
+pub refine_new : {T : Type 0} (values : List ItemValue → T) (stack : Stack T) → stack.now ≡ values [] → stack.saved.items ≡ [] → StackRefines values [] stack
 unfolding in_force saved_of
-stand_new values stack now saved = record { now = now; saved = saved }
+refine_new values stack now saved = record { now = now; saved = saved }
 
 -- an item that stays in force, and saves nothing
-pub stand_more : {T : Type 0} (values : List ItemValue → T) (before : List ItemValue) (item : ItemValue) (old new : Stack T) → is_push (tag item) ≡ false → is_pop (tag item) ≡ false
-    → new.now ≡ values (item ∷ in_force before) → new.saved.items ≡ old.saved.items → StackStands values before old → StackStands values (item ∷ before) new
-stand_more values before item old new push pop now saved s =
+pub refine_more : {T : Type 0} (values : List ItemValue → T) (before : List ItemValue) (item : ItemValue) (old new : Stack T) → is_push (tag item) ≡ false → is_pop (tag item) ≡ false
+    → new.now ≡ values (item ∷ in_force before) → new.saved.items ≡ old.saved.items → StackRefines values before old → StackRefines values (item ∷ before) new
+refine_more values before item old new push pop now saved s =
     let more : in_force (item ∷ before) ≡ item ∷ in_force before = in_force_more before item pop in
     record {
       now = now ∙ sym (ap values more);
       saved = saved ∙ s.saved ∙ sym (ap (saved_of values) more ∙ saved_same values item (in_force before) push);
     }
 
-pub stand_push : {T : Type 0} (values : List ItemValue → T) (before : List ItemValue) (item : ItemValue) (old new : Stack T) → ((items : List ItemValue) → values (item ∷ items) ≡ values items)
-    → tag item ≡ Global Push → new.now ≡ old.now → new.saved.items ≡ old.saved.items ++ old.now ∷ [] → StackStands values before old → StackStands values (item ∷ before) new
-stand_push values before item old new same e now saved s =
+pub refine_push : {T : Type 0} (values : List ItemValue → T) (before : List ItemValue) (item : ItemValue) (old new : Stack T) → ((items : List ItemValue) → values (item ∷ items) ≡ values items)
+    → tag item ≡ Global Push → new.now ≡ old.now → new.saved.items ≡ old.saved.items ++ old.now ∷ [] → StackRefines values before old → StackRefines values (item ∷ before) new
+refine_push values before item old new same e now saved s =
     let more : in_force (item ∷ before) ≡ item ∷ in_force before = in_force_more before item (ap is_pop e) in
     record {
       now = now ∙ s.now ∙ sym (ap values more ∙ same (in_force before));
       saved = saved ∙ (rw (s.now, s.saved) (sym (ap (saved_of values) more ∙ saved_more values item (in_force before) (ap is_push e))));
     }
 
-pub stand_pop : {T : Type 0} (values : List ItemValue → T) (before : List ItemValue) (item : ItemValue) (old new : Stack T) → tag item ≡ Global Pop
-    → old.saved.items ≡ new.saved.items ++ new.now ∷ [] → StackStands values before old → StackStands values (item ∷ before) new
-stand_pop values before item old new e split s =
+pub refine_pop : {T : Type 0} (values : List ItemValue → T) (before : List ItemValue) (item : ItemValue) (old new : Stack T) → tag item ≡ Global Pop
+    → old.saved.items ≡ new.saved.items ++ new.now ∷ [] → StackRefines values before old → StackRefines values (item ∷ before) new
+refine_pop values before item old new e split s =
     let us = in_force before in
     let len : length (saved_of values us) ≡ pushes before = length_saved values us in
     let some : 0 < length (saved_of values us) = omega (arith, ap length s.saved, ap length split, length-append new.saved.items (new.now ∷ [])) in
@@ -130,9 +130,9 @@ stand_pop values before item old new e split s =
     record { now = same.1 ∙ sym (ap values popped); saved = same.0 ∙ sym (ap (saved_of values) popped) }
 
 -- a Pop without a Push left
-pub stand_no_pop : {T : Type 0} (values : List ItemValue → T) (before : List ItemValue) (item : ItemValue) (old new : Stack T) → tag item ≡ Global Pop
-    → length old.saved.items ≡ 0 → new.now ≡ old.now → new.saved.items ≡ old.saved.items → StackStands values before old → StackStands values (item ∷ before) new
-stand_no_pop values before item old new e none now saved s =
+pub refine_no_pop : {T : Type 0} (values : List ItemValue → T) (before : List ItemValue) (item : ItemValue) (old new : Stack T) → tag item ≡ Global Pop
+    → length old.saved.items ≡ 0 → new.now ≡ old.now → new.saved.items ≡ old.saved.items → StackRefines values before old → StackRefines values (item ∷ before) new
+refine_no_pop values before item old new e none now saved s =
     let as_many : length old.saved.items ≡ pushes before = none_saved values before old s in
     let same : in_force (item ∷ before) ≡ in_force before = in_force_none before item e (omega arith) in
     record { now = now ∙ s.now ∙ sym (ap values same); saved = saved ∙ s.saved ∙ sym (ap (saved_of values) same) }

@@ -20,16 +20,16 @@ use Rattle.descriptor_parse.specs.Globals.{unsigned, report_size, report_count}
 use Rattle.descriptor_parse.specs.Locals.{has_page, unpaired, is_match, is_minimum}
 use Rattle.descriptor_parse.specs.Fields.{is_constant, is_field, open_collections}
 use Rattle.descriptor_parse.specs.Faults.{shows, fault_at, wants_memory}
-use Rattle.descriptor_parse.specs.ties.GlobalsOf.{globals_of}
-use Rattle.descriptor_parse.specs.ties.StackStands.{StackStands}
-use Rattle.descriptor_parse.specs.ties.Written.{usage_of}
-use Rattle.descriptor_parse.specs.ties.LocalsStand.{LocalsStand, raw_of, half_of, are_alike, fault_of_local, adds_range}
-use Rattle.descriptor_parse.specs.ties.ReportsStand.{ReportsStand, FitsData, declares, fills}
-use Rattle.descriptor_parse.specs.ties.StateStands.{StateStands, IsData, fault_of_main, fault_of_global}
-use Rattle.descriptor_parse.proofs.GlobalLemmas.{stand_other, is_global}
+use Rattle.descriptor_parse.specs.representation.GlobalsOf.{globals_of}
+use Rattle.descriptor_parse.specs.representation.StackRefines.{StackRefines}
+use Rattle.descriptor_parse.specs.representation.Written.{usage_of}
+use Rattle.descriptor_parse.specs.representation.LocalsRefine.{LocalsRefine, raw_of, half_of, are_alike, fault_of_local, adds_range}
+use Rattle.descriptor_parse.specs.representation.ReportsRefine.{ReportsRefine, FitsData, declares, fills}
+use Rattle.descriptor_parse.specs.representation.StateRefines.{StateRefines, IsData, fault_of_main, fault_of_global}
+use Rattle.descriptor_parse.proofs.GlobalLemmas.{refine_other, is_global}
 use Rattle.descriptor_parse.proofs.StackLemmas.{none_saved}
-use Rattle.descriptor_parse.proofs.LocalLemmas.{stand_silent, is_silent}
-use Rattle.descriptor_parse.proofs.ReportLemmas.{stand_neutral, is_neutral, declares_field}
+use Rattle.descriptor_parse.proofs.LocalLemmas.{refine_silent, is_silent}
+use Rattle.descriptor_parse.proofs.ReportLemmas.{refine_neutral, is_neutral, declares_field}
 
 -- ---- the fault of an item, by what the state holds
 
@@ -63,11 +63,11 @@ local_at local.UsageMaximum before item None e h = rw (e, h) refl
 local_at local.UsageMinimum before item (Some other) e h = rw (e, h, same_match item.bytes other.bytes, raw_is item.bytes, raw_is other.bytes, not_not (is_minimum (tag other))) refl
 local_at local.UsageMaximum before item (Some other) e h = rw (e, h, same_match other.bytes item.bytes, raw_is item.bytes, raw_is other.bytes) refl
 
-pub judged_local : (before : List ItemValue) (item : ItemValue) (t : LocalTag) (locals : Locals) → tag item ≡ Local t → LocalsStand before locals
+pub checked_local : (before : List ItemValue) (item : ItemValue) (t : LocalTag) (locals : Locals) → tag item ≡ Local t → LocalsRefine before locals
     → fault_at before item ≡ fault_of_local t (usage_of item.bytes) locals.half
-judged_local before item t locals e s = local_at t before item (unpaired before) e refl ∙ ap (fault_of_local t (usage_of item.bytes)) (sym s.half)
+checked_local before item t locals e s = local_at t before item (unpaired before) e refl ∙ ap (fault_of_local t (usage_of item.bytes)) (sym s.half)
 
-global_at : (t : GlobalTag) (before : List ItemValue) (item : ItemValue) (s : State) → tag item ≡ Global t → StateStands before s
+global_at : (t : GlobalTag) (before : List ItemValue) (item : ItemValue) (s : State) → tag item ≡ Global t → StateRefines before s
     → fault_at before item ≡ fault_of_global t (unsigned item.bytes) s
 unfolding fault_at shows
 global_at Pop before item s e st = rw (e, none_saved globals_of before s.globals st.globals) refl
@@ -79,11 +79,11 @@ global_at LogicalMaximum before item s e st = rw e refl
 global_at ReportSize before item s e st = rw e refl
 global_at ReportCount before item s e st = rw e refl
 
-pub judged_global : (before : List ItemValue) (item : ItemValue) (t : GlobalTag) (s : State) → tag item ≡ Global t → StateStands before s
+pub checked_global : (before : List ItemValue) (item : ItemValue) (t : GlobalTag) (s : State) → tag item ≡ Global t → StateRefines before s
     → fault_at before item ≡ fault_of_global t (unsigned item.bytes) s
-judged_global before item t s e st = global_at t before item s e st
+checked_global before item t s e st = global_at t before item s e st
 
-main_at : (t : MainTag) (before : List ItemValue) (item : ItemValue) (s : State) → tag item ≡ Main t → StateStands before s
+main_at : (t : MainTag) (before : List ItemValue) (item : ItemValue) (s : State) → tag item ≡ Main t → StateRefines before s
     → fault_at before item ≡ fault_of_main t (unsigned item.bytes) s
 unfolding fault_at shows
 main_at Collection before item s e st =
@@ -97,22 +97,22 @@ main_at (Data kind) before item s e st =
     let declares_it : declares (unsigned item.bytes) s.globals.now ≡ is_field before item = declares_field before item kind s.globals.now e st.globals.now in
     rw (declares_it, half, st.reports.fields, st.reports.has_ids, st.globals.now, e) refl
 
-pub judged_main : (before : List ItemValue) (item : ItemValue) (t : MainTag) (s : State) → tag item ≡ Main t → StateStands before s
+pub checked_main : (before : List ItemValue) (item : ItemValue) (t : MainTag) (s : State) → tag item ≡ Main t → StateRefines before s
     → fault_at before item ≡ fault_of_main t (unsigned item.bytes) s
-judged_main before item t s e st = main_at t before item s e st
+checked_main before item t s e st = main_at t before item s e st
 
 -- an item that is skipped shows none
-pub judged_skipped : (before : List ItemValue) (item : ItemValue) → tag item ≡ Skipped → fault_at before item ≡ None
+pub checked_skipped : (before : List ItemValue) (item : ItemValue) → tag item ≡ Skipped → fault_at before item ≡ None
 unfolding fault_at shows
-judged_skipped before item e = rw e refl
+checked_skipped before item e = rw e refl
 
 -- ---- the state after an item
 
 -- an item that opens and closes no collection
-pub stand_plain : (before : List ItemValue) (item : ItemValue) (old new : State) → is_collection (tag item) ≡ false → is_end_collection (tag item) ≡ false
-    → StackStands globals_of (item ∷ before) new.globals → LocalsStand (item ∷ before) new.locals → ReportsStand (item ∷ before) new.reports
-    → new.collections ≡ old.collections → StateStands before old → StateStands (item ∷ before) new
-stand_plain before item old new n m g l r c s = record {
+pub refine_plain : (before : List ItemValue) (item : ItemValue) (old new : State) → is_collection (tag item) ≡ false → is_end_collection (tag item) ≡ false
+    → StackRefines globals_of (item ∷ before) new.globals → LocalsRefine (item ∷ before) new.locals → ReportsRefine (item ∷ before) new.reports
+    → new.collections ≡ old.collections → StateRefines before old → StateRefines (item ∷ before) new
+refine_plain before item old new n m g l r c s = record {
   globals = g;
   locals = l;
   reports = r;
@@ -120,10 +120,10 @@ stand_plain before item old new n m g l r c s = record {
   balanced = rw (n, m) s.balanced;
 }
 
-pub stand_opened : (before : List ItemValue) (item : ItemValue) (old new : State) → tag item ≡ Main Collection
-    → StackStands globals_of (item ∷ before) new.globals → LocalsStand (item ∷ before) new.locals → ReportsStand (item ∷ before) new.reports
-    → new.collections ≡ old.collections + 1 → StateStands before old → StateStands (item ∷ before) new
-stand_opened before item old new e g l r c s =
+pub refine_opened : (before : List ItemValue) (item : ItemValue) (old new : State) → tag item ≡ Main Collection
+    → StackRefines globals_of (item ∷ before) new.globals → LocalsRefine (item ∷ before) new.locals → ReportsRefine (item ∷ before) new.reports
+    → new.collections ≡ old.collections + 1 → StateRefines before old → StateRefines (item ∷ before) new
+refine_opened before item old new e g l r c s =
     let b = s.balanced in
     let now = s.collections in record {
       globals = g;
@@ -133,10 +133,10 @@ stand_opened before item old new e g l r c s =
       balanced = rw e (omega arith);
     }
 
-pub stand_closed : (before : List ItemValue) (item : ItemValue) (old new : State) → tag item ≡ Main EndCollection → 0 < open_collections before
-    → StackStands globals_of (item ∷ before) new.globals → LocalsStand (item ∷ before) new.locals → ReportsStand (item ∷ before) new.reports
-    → new.collections ≡ old.collections - 1 → StateStands before old → StateStands (item ∷ before) new
-stand_closed before item old new e some g l r c s =
+pub refine_closed : (before : List ItemValue) (item : ItemValue) (old new : State) → tag item ≡ Main EndCollection → 0 < open_collections before
+    → StackRefines globals_of (item ∷ before) new.globals → LocalsRefine (item ∷ before) new.locals → ReportsRefine (item ∷ before) new.reports
+    → new.collections ≡ old.collections - 1 → StateRefines before old → StateRefines (item ∷ before) new
+refine_closed before item old new e some g l r c s =
     let b = s.balanced in
     let now = s.collections in record {
       globals = g;
@@ -153,11 +153,11 @@ pub global_no_collection : (item : ItemValue) (t : GlobalTag) → tag item ≡ G
 global_no_collection item t e = rw e (refl, refl)
 
 -- an item that is skipped changes nothing
-pub stand_skipped : (before : List ItemValue) (item : ItemValue) (state : State) → tag item ≡ Skipped → StateStands before state → StateStands (item ∷ before) state
-stand_skipped before item state e s =
-    stand_plain before item state state (ap is_collection e) (ap is_end_collection e)
-    (stand_other before item state.globals (ap is_global e) s.globals) (stand_silent before item state.locals (ap is_silent e) s.locals)
-    (stand_neutral before item state.reports (ap is_neutral e) s.reports) refl s
+pub refine_skipped : (before : List ItemValue) (item : ItemValue) (state : State) → tag item ≡ Skipped → StateRefines before state → StateRefines (item ∷ before) state
+refine_skipped before item state e s =
+    refine_plain before item state state (ap is_collection e) (ap is_end_collection e)
+    (refine_other before item state.globals (ap is_global e) s.globals) (refine_silent before item state.locals (ap is_silent e) s.locals)
+    (refine_neutral before item state.reports (ap is_neutral e) s.reports) refl s
 
 -- ---- what no fault says
 
@@ -165,7 +165,7 @@ none_left : (b : Bool) (fault : ParseFault) (more : Option ParseFault) → cond 
 none_left true fault more e = cc
 none_left false fault more e = (refl, e)
 
-pub fits_data : (before : List ItemValue) (item : ItemValue) (kind : Kind) (s : State) → tag item ≡ Main (Data kind) → StateStands before s
+pub fits_data : (before : List ItemValue) (item : ItemValue) (kind : Kind) (s : State) → tag item ≡ Main (Data kind) → StateRefines before s
     → fault_of_main (Data kind) (unsigned item.bytes) s ≡ None → FitsData before item
 fits_data before item kind s e st none =
     let size : s.globals.now.size ≡ report_size before = ap (λ g. g.size) st.globals.now in
@@ -183,13 +183,13 @@ fits_data before item kind s e st none =
       count = omega arith;
     }
 
-pub room_for_collection : (before : List ItemValue) (item : ItemValue) (s : State) → StateStands before s
+pub room_for_collection : (before : List ItemValue) (item : ItemValue) (s : State) → StateRefines before s
     → fault_of_main Collection (unsigned item.bytes) s ≡ None → open_collections before < 16
 room_for_collection before item s st none =
     let below : s.collections < 16 = leb-false _ _ (none_left _ _ _ none).0 in
     let now = st.collections in omega arith
 
-pub collection_left : (before : List ItemValue) (item : ItemValue) (s : State) → StateStands before s
+pub collection_left : (before : List ItemValue) (item : ItemValue) (s : State) → StateRefines before s
     → fault_of_main EndCollection (unsigned item.bytes) s ≡ None → 0 < open_collections before
 collection_left before item s st none =
     let some : s.collections ≡ 0 → ⊥ = eqb-false _ _ (none_left _ _ _ none).0 in
@@ -208,12 +208,12 @@ long_skipped prefix e = rw e refl
 
 -- ---- what may want memory
 
-pub wants_main : (t : MainTag) (before : List ItemValue) (item : ItemValue) (s : State) → tag item ≡ Main t → StateStands before s
+pub wants_main : (t : MainTag) (before : List ItemValue) (item : ItemValue) (s : State) → tag item ≡ Main t → StateRefines before s
     → IsData t → IsTrue (fills s.globals.now) → IsTrue (wants_memory (tag item) before)
 wants_main (Data kind) before item s e st d f = rw e (rw st.globals.now at f)
 wants_main _ before item s e st d f = absurd d
 
-pub wants_local : (t : LocalTag) (before : List ItemValue) (item : ItemValue) (locals : Locals) → tag item ≡ Local t → LocalsStand before locals
+pub wants_local : (t : LocalTag) (before : List ItemValue) (item : ItemValue) (locals : Locals) → tag item ≡ Local t → LocalsRefine before locals
     → IsTrue (adds_range t locals.half) → IsTrue (wants_memory (tag item) before)
 wants_local local.Usage before item locals e st f = rw e refl
 wants_local local.Delimiter before item locals e st f = cc

@@ -2,7 +2,7 @@ use Rattle.std.proofs.Common.{◌≡◌, ℕ, ◌-◌, ◌*◌, ◌/◌, ◌%◌
 use Rattle.std.specs.Prelude.{◌==◌}
 use Rattle.std.proofs.lemmas.Bool.{cases_eq, eq-eqb, ne_eqb}
 use Rattle.descriptor_parse.specs.Tags.{tag_of}
-use Rattle.descriptor_parse.specs.ties.TagTable.{tag_by}
+use Rattle.descriptor_parse.specs.representation.TagTable.{tag_by}
 
 scaled : (p q k : ℕ) → p ≡ 4 * q → (p == 4 * k) ≡ (q == k)
 scaled p q k e =

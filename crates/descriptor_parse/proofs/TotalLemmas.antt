@@ -6,7 +6,7 @@ use Rattle.descriptor_parse.specs.declared.field.Kind.{Kind}
 use Rattle.descriptor_parse.specs.declared.field.Field.{Field}
 use Rattle.descriptor_parse.specs.declared.totals.IdReports.{IdReports}
 use Rattle.descriptor_parse.specs.Descriptor.{bits_on}
-use Rattle.descriptor_parse.specs.ties.Totals.{first_on, no_reports}
+use Rattle.descriptor_parse.specs.representation.Totals.{first_on, no_reports}
 use Rattle.descriptor_parse.specs.Readers.{is_of_report}
 use Rattle.descriptor_parse.specs.Tags.{same_kind}
 

@@ -5,7 +5,7 @@ use Rattle.std.proofs.lemmas.Option.{slice_get_within, slice_get-get_or, none-so
 use Rattle.std.proofs.lemmas.List.{append-nil, drop_all, take_more}
 use Rattle.descriptor_parse.specs.declared.field.Field.{Field}
 use Rattle.descriptor_parse.specs.Descriptor.{count_up, usage_list, usage_of_place}
-use Rattle.descriptor_parse.specs.ties.Descriptor.{last_of}
+use Rattle.descriptor_parse.specs.representation.Descriptor.{last_of}
 
 pub length_up : (first n : ℕ) → length (count_up first n) ≡ n
 unfolding count_up

@@ -1,4 +1,4 @@
--- Believed: what a text is refused for that is parsed for more than its fields.
+-- Trusted: what a text is refused for that is parsed for more than its fields.
 use Rattle.shapes.specs.Shapes.{Bytes}
 use Rattle.descriptor_parse.specs.declared.beside.Refusal.{Refusal}
 use Rattle.descriptor_parse.specs.declared.beside.Refusal.TheVariants.{Parse, Memory}

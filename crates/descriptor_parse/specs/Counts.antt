@@ -1,4 +1,4 @@
--- Believed: how many usages the ranges of a field have.
+-- Trusted: how many usages the ranges of a field have.
 use Rattle.std.specs.Prelude.{◌≡◌, ℕ, ◌+◌, ◌<◌, List, length, take, slice_index}
 use Rattle.descriptor_parse.specs.Descriptor.{usage_list}
 

@@ -1,4 +1,4 @@
--- Believed: how a text is cut into items.
+-- Trusted: how a text is cut into items.
 use Rattle.shapes.specs.Shapes.{Bytes}
 use Rattle.std.specs.Prelude.{◌≡◌, ◌≢◌, ℕ, ◌+◌, ◌⊎◌, List, [], ◌∷◌, ◌++◌, length, Result, Err}
 use Rattle.descriptor_parse.specs.declared.fault.ParseError.{ParseError}

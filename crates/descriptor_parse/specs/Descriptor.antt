@@ -1,4 +1,4 @@
--- Believed: the descriptor of a text, and what is looked up in it.
+-- Trusted: the descriptor of a text, and what is looked up in it.
 use Rattle.shapes.specs.Shapes.{UsageList}
 use Rattle.std.specs.Prelude.{◌≡◌, ℕ, zero, suc, ◌+◌, ◌-◌, ◌/◌, ◌==◌, nat_lt, min, Bool, if◌then◌else◌, List, [], ◌∷◌, length, flat_map, slice_get, slice_index_or, Option, Some, None, option_and_then, unwrap_or}
 use Rattle.descriptor_parse.specs.declared.field.Kind.{Kind}

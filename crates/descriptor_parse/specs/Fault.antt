@@ -1,9 +1,9 @@
--- Believed: the numbers of faults.
+-- Trusted: the numbers of faults.
 use Rattle.std.specs.Prelude.{ℕ}
 use Rattle.descriptor_parse.specs.declared.fault.ParseFault.{ParseFault}
 use Rattle.descriptor_parse.specs.declared.fault.ParseFault.TheVariants.{Truncated, Delimiter, PopEmpty, PushDeep, BadReportId, SizeTooLarge, CountTooLarge, EndWithoutCollection, CollectionDeep, UnpairedUsage, UsageInverted, LogicalInverted, TooManyFields, MixedIds, CollectionOpen, TooLong, Memory}
 
--- the number of a fault: of two at one item, the one with the lesser number is told
+-- the number of a fault: of two at one item, the one with the lesser number is reported
 abbrev pub number_of : ParseFault → ℕ
 number_of Truncated = 1
 number_of Delimiter = 2

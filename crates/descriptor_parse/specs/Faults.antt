@@ -1,4 +1,4 @@
--- Believed: the faults of a text, which of them is the first, and where memory may be wanted.
+-- Trusted: the faults of a text, which of them is the first, and where memory may be wanted.
 use Rattle.shapes.specs.Shapes.{Bytes}
 use Rattle.std.specs.Prelude.{◌≡◌, ℕ, ◌<◌, ◌≤◌, ◌==◌, if◌then◌else◌, nat_lt, nat_le, Bool, true, false, not, ◌&&◌, ◌||◌, IsTrue, ◌⊎◌, List, [], ◌∷◌, length, find, int_lt, Option, is_some, Result, Ok, Err}
 use Rattle.descriptor_parse.specs.declared.fault.ParseError.{ParseError}

@@ -1,4 +1,4 @@
--- Believed: an answer to every text that begins with some bytes.
+-- Trusted: an answer to every text that begins with some bytes.
 use Rattle.shapes.specs.Shapes.{Bytes}
 use Rattle.std.specs.Prelude.{◌++◌}
 use Rattle.descriptor_parse.specs.declared.fault.ParseError.{ParseError}

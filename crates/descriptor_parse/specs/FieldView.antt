@@ -1,4 +1,4 @@
--- Believed: a field as iterators give it.
+-- Trusted: a field as iterators give it.
 use Rattle.std.specs.Prelude.{ℕ, List}
 use Rattle.descriptor_parse.specs.declared.field.Field.{Field}
 use Rattle.descriptor_parse.specs.declared.field_usages.FieldUsages.{FieldUsages}

@@ -1,4 +1,4 @@
--- Believed: the fields that a text declares.
+-- Trusted: the fields that a text declares.
 use Rattle.std.specs.Prelude.{ℕ, ◌+◌, ◌-◌, ◌*◌, ◌/◌, ◌%◌, ◌==◌, if◌then◌else◌, nat_lt, Bool, true, false, not, ◌&&◌, List, [], ◌∷◌, ◌++◌, length, filter}
 use Rattle.std.specs.List.{list_any}
 use Rattle.descriptor_parse.specs.declared.field.Kind.{Kind}

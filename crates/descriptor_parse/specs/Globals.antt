@@ -1,4 +1,4 @@
--- Believed: the Global items in force, and the numbers in data.
+-- Trusted: the Global items in force, and the numbers in data.
 use Rattle.shapes.specs.Shapes.{Bytes}
 use Rattle.std.specs.Prelude.{ℕ, ◌+◌, ◌*◌, ◌^◌, ◌%◌, if◌then◌else◌, nat_lt, Bool, List, [], ◌∷◌, length, filter, ℤ, pos, ◌-ℤ◌, int_lt}
 use Rattle.std.specs.List.{list_any}

@@ -1,4 +1,4 @@
--- Believed: items as iterators give them.
+-- Trusted: items as iterators give them.
 use Rattle.std.specs.Prelude.{Result, Ok, Err}
 use Rattle.descriptor_parse.specs.declared.fault.ParseError.{ParseError}
 use Rattle.descriptor_parse.specs.declared.items.Item.{Item}

@@ -15,4 +15,4 @@ pub mod WellFormed
 pub mod Readers
 pub mod FieldView
 pub mod Cut
-pub mod ties
+pub mod representation

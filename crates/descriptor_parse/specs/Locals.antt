@@ -1,4 +1,4 @@
--- Believed: the usages of a field by the Local items before it.
+-- Trusted: the usages of a field by the Local items before it.
 use Rattle.shapes.specs.Shapes.{Bytes}
 use Rattle.std.specs.Prelude.{ℕ, ◌+◌, ◌*◌, ◌/◌, ◌%◌, ◌^◌, ◌==◌, if◌then◌else◌, nat_lt, Bool, true, false, not, ◌&&◌, ◌||◌, List, [], ◌∷◌, ◌++◌, length, filter, slice_get, Option, Some, None, is_some}
 use Rattle.descriptor_parse.specs.declared.tag.Tag.{Tag}

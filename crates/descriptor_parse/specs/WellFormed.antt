@@ -1,4 +1,4 @@
--- Believed: what holds of every descriptor.
+-- Trusted: what holds of every descriptor.
 use Rattle.std.specs.Prelude.{◌≡◌, ℕ, ◌+◌, ◌*◌, ◌/◌, ◌^◌, ◌<◌, ◌≤◌, ◌↔◌, false, List, length, All, pos, neg_ℤ, ◌≤ℤ◌, ◌<ℤ◌}
 use Rattle.descriptor_parse.specs.declared.field.Kind.{Kind}
 use Rattle.descriptor_parse.specs.declared.field.Field.{Field}

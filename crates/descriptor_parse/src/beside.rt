@@ -6,7 +6,7 @@ ghost use Rattle.descriptor_parse.specs.ItemViews.{item_view};
 ghost use Rattle.descriptor_parse.specs.Faults.{IsFaultless, all_items};
 ghost use Rattle.descriptor_parse.specs.Descriptor.{Describes};
 ghost use Rattle.descriptor_parse.specs.Beside.{IsRefusal};
-ghost use Rattle.descriptor_parse.specs.ties.StateStands.{StateStands};
+ghost use Rattle.descriptor_parse.specs.representation.StateRefines.{StateRefines};
 
 use crate::descriptor::Descriptor;
 use crate::fault::ParseError;
@@ -18,13 +18,13 @@ use std::alloc::{AllocError, Global};
 /// What is kept beside the fields.
 pub trait Beside {
     /// It stands for the items before, newest first.
-    ghost stands: { List ItemValue → Self → Type 0 };
+    ghost refines: { List ItemValue → Self → Type 0 };
 
     /// Takes an item, after those that this state stands for.
     fn take(&mut self, item: &Item<'_>, before: &State) -> Result<(), AllocError>
         requires few { item.now.prefix ≢ 254 → length item.now.bytes.now ≤ 4 }
         requires not_three { item.now.prefix ≢ 254 → length item.now.bytes.now ≢ 3 }
-        ensures { OnOk result ((items : List ItemValue) → StateStands items before.now → stands items self.old → stands (item_view item.now ∷ items) self.new) };
+        ensures { OnOk result ((items : List ItemValue) → StateRefines items before.now → refines items self.old → refines (item_view item.now ∷ items) self.new) };
 }
 
 /// Why a text is not parsed.
@@ -44,7 +44,7 @@ pub fn parse_beside<B: Beside>(
 ) -> Result<Descriptor, Refusal>
     ensures faultless { IfOk result (λ d. IsFaultless text.now) }
     ensures described { IfOk result (λ d. Describes (all_items text.now) d) }
-    ensures beside { OnOk result (B.stands [] beside.old → B.stands (all_items text.now) beside.new) }
+    ensures beside { OnOk result (B.refines [] beside.old → B.refines (all_items text.now) beside.new) }
     ensures refused { IfErr result (IsRefusal text.now) }
 {
     let mut state = State::new(alloc);

@@ -3,13 +3,13 @@
 ghost use Rattle.std.specs.Prelude.{◌≡◌, ◌-◌, ◌==◌, List, length, slice_index, ◌≤◌, take, drop, if◌then◌else◌};
 ghost use Rattle.descriptor_parse.specs.Descriptor.{report_len, ranges_at, usage_list, usage_at};
 ghost use Rattle.descriptor_parse.specs.Counts.{AreCounts};
-ghost use Rattle.descriptor_parse.specs.ties.CountsStand.{StandTogether};
-ghost use Rattle.descriptor_parse.specs.ties.DescriptorView.{value_of};
+ghost use Rattle.descriptor_parse.specs.representation.CountsRefine.{RefineTogether};
+ghost use Rattle.descriptor_parse.specs.representation.DescriptorView.{value_of};
 ghost use Rattle.descriptor_parse.specs.WellFormed.{IsWellFormed};
-ghost use Rattle.descriptor_parse.specs.ties.WellFormed.{IsKnown};
+ghost use Rattle.descriptor_parse.specs.representation.WellFormed.{IsKnown};
 ghost use Rattle.descriptor_parse.specs.Readers.{fields_of};
-ghost use Rattle.descriptor_parse.specs.ties.Linked.{AreLinked, HasFirst, ends_of};
-ghost use Rattle.descriptor_parse.specs.ties.ReportsStand.{CanLink};
+ghost use Rattle.descriptor_parse.specs.representation.Linked.{AreLinked, HasFirst, ends_of};
+ghost use Rattle.descriptor_parse.specs.representation.ReportsRefine.{CanLink};
 
 use crate::counts::place_usage;
 use crate::field::{Field, Kind};
@@ -41,24 +41,24 @@ pub struct Descriptor {
 
 impl Model for Descriptor {
     ghost use Rattle.descriptor_parse.specs.Descriptor.{DescriptorValue};
-    ghost use Rattle.descriptor_parse.specs.ties.DescriptorView.{value_of};
-    ghost use Rattle.descriptor_parse.specs.ties.WellFormed.{IsKnown};
-    ghost use Rattle.descriptor_parse.specs.ties.CountsStand.{StandTogether};
-    ghost use Rattle.descriptor_parse.specs.ties.Linked.{AreLinked, HasFirst, ends_of};
+    ghost use Rattle.descriptor_parse.specs.representation.DescriptorView.{value_of};
+    ghost use Rattle.descriptor_parse.specs.representation.WellFormed.{IsKnown};
+    ghost use Rattle.descriptor_parse.specs.representation.CountsRefine.{RefineTogether};
+    ghost use Rattle.descriptor_parse.specs.representation.Linked.{AreLinked, HasFirst, ends_of};
 
     ghost Value = { DescriptorValue };
 
     ghost view = { λ d. value_of d.reports };
 
     ghost invariant = { λ d. IsKnown (value_of d.reports)
-        × ∥ StandTogether 0 (ends_of d.reports.links.items) d.reports.ranges.items d.reports.counts.items ∥₁
+        × ∥ RefineTogether 0 (ends_of d.reports.links.items) d.reports.ranges.items d.reports.counts.items ∥₁
         × AreLinked d.reports.fields.items d.reports.links.items × HasFirst d.reports.totals 0 d.reports.fields.items };
 }
 
 impl Descriptor {
     pub(crate) fn new(reports: Reports) -> Descriptor
         requires known { IsKnown (value_of reports) }
-        requires counted { ∥ StandTogether 0 (ends_of reports.links.items) reports.ranges.items reports.counts.items ∥₁ }
+        requires counted { ∥ RefineTogether 0 (ends_of reports.links.items) reports.ranges.items reports.counts.items ∥₁ }
         requires linkable { CanLink reports }
         ensures { result ≡ value_of reports }
     {
@@ -116,7 +116,7 @@ impl Descriptor {
         };
         part(
             &self.reports.ranges,
-            start_of(&self.reports.links, field),
+            first_range(&self.reports.links, field),
             link.end,
         )
     }
@@ -131,7 +131,7 @@ impl Descriptor {
         };
         part(
             &self.reports.counts,
-            start_of(&self.reports.links, field),
+            first_range(&self.reports.links, field),
             link.end,
         )
     }
@@ -197,7 +197,7 @@ impl Debug for Descriptor {
 
 /// Where the usages of a field start.
 #[inline(always)]
-pub(crate) fn start_of(links: &[Link], field: usize) -> usize
+pub(crate) fn first_range(links: &[Link], field: usize) -> usize
     requires { field ≤ length links.now }
     ensures { result ≡ (if field == 0 then 0 else slice_index (ends_of links.now) (field - 1)) }
 {

@@ -5,7 +5,7 @@ ghost use Rattle.descriptor_parse.specs.Fault.{number_of};
 
 use thiserror::Error;
 
-/// The faults of a report descriptor, by their numbers. Where several fall on one item, the least is told.
+/// The faults of a report descriptor, by their numbers. Where several fall on one item, the least is reported.
 #[derive(Clone, Copy, Debug, PartialEq, Eq)]
 pub enum ParseFault {
     /// The text ends within an item.
@@ -28,7 +28,7 @@ pub enum ParseFault {
     CollectionDeep = 9,
     /// A second Usage Minimum or Maximum before its pair, a pair that does not match, or a Main item with one left.
     UnpairedUsage = 10,
-    /// A Usage Minimum over its Maximum, told at the second of the pair.
+    /// A Usage Minimum over its Maximum, reported at the second of the pair.
     UsageInverted = 11,
     /// An array whose Logical Minimum is over its Logical Maximum.
     LogicalInverted = 12,

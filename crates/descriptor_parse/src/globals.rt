@@ -4,8 +4,8 @@ ghost use Rattle.std.specs.Prelude.{◌≡◌, ◌≤◌, ◌<◌, List, ◌∷�
 ghost use Rattle.descriptor_parse.specs.Items.{ItemValue};
 ghost use Rattle.descriptor_parse.specs.Tags.{tag_of};
 ghost use Rattle.descriptor_parse.specs.Globals.{unsigned};
-ghost use Rattle.descriptor_parse.specs.ties.GlobalsOf.{globals_of, max_of, globals_with};
-ghost use Rattle.descriptor_parse.specs.ties.StackStands.{StackStands};
+ghost use Rattle.descriptor_parse.specs.representation.GlobalsOf.{globals_of, max_of, globals_with};
+ghost use Rattle.descriptor_parse.specs.representation.StackRefines.{StackRefines};
 ghost use Rattle.descriptor_parse.specs.declared.tag.Tag.{Tag};
 ghost use Rattle.descriptor_parse.specs.declared.tag.GlobalTag.{GlobalTag};
 
@@ -89,7 +89,7 @@ pub(crate) fn take_global(
     requires { length bytes.now ≤ 4 }
     ensures taken { OnOk result ((before : List ItemValue) (item : ItemValue) → tag_of item.prefix ≡ Tag.Global tag
         → item.bytes ≡ bytes.now → (tag ≡ GlobalTag.ReportId → unsigned item.bytes < 256)
-        → StackStands globals_of before globals.old → StackStands globals_of (item ∷ before) globals.new) }
+        → StackRefines globals_of before globals.old → StackRefines globals_of (item ∷ before) globals.new) }
     ensures refused { OnErr result (tag ≡ GlobalTag.Push) }
 {
     match tag {

@@ -4,9 +4,9 @@ ghost use Rattle.std.specs.Prelude.{◌≡◌, ◌≢◌, ◌≤◌, ◌<◌, �
 ghost use Rattle.descriptor_parse.specs.Items.{ItemValue};
 ghost use Rattle.descriptor_parse.specs.Tags.{tag_of};
 ghost use Rattle.descriptor_parse.specs.Locals.{usage_number};
-ghost use Rattle.descriptor_parse.specs.ties.LocalsStand.{LocalsStand, range_on, raw_of, are_alike, fault_of_pair, fault_of_local, adds_range, TakesHalf};
-ghost use Rattle.descriptor_parse.specs.ties.Written.{usage_of};
-ghost use Rattle.descriptor_parse.specs.ties.CountsStand.{count_with, wrapped_counts};
+ghost use Rattle.descriptor_parse.specs.representation.LocalsRefine.{LocalsRefine, range_on, raw_of, are_alike, fault_of_pair, fault_of_local, adds_range, TakesHalf};
+ghost use Rattle.descriptor_parse.specs.representation.Written.{usage_of};
+ghost use Rattle.descriptor_parse.specs.representation.CountsRefine.{count_with, wrapped_counts};
 ghost use Rattle.descriptor_parse.specs.declared.tag.Tag.{Tag};
 ghost use Rattle.descriptor_parse.specs.declared.tag.LocalTag.{LocalTag};
 
@@ -41,7 +41,7 @@ pub(crate) struct Locals {
 
 impl Locals {
     pub(crate) fn new(alloc: Global) -> Locals
-        ensures { LocalsStand [] result }
+        ensures { LocalsRefine [] result }
     {
         Locals {
             usages: Vec::new(alloc),
@@ -51,7 +51,7 @@ impl Locals {
 
     /// The fault of a Local item.
     #[inline(always)]
-    pub(crate) fn judge(&self, tag: LocalTag, usage: Usage) -> Option<ParseFault>
+    pub(crate) fn check(&self, tag: LocalTag, usage: Usage) -> Option<ParseFault>
         ensures { result ≡ fault_of_local tag usage self.now.half }
     {
         match tag {
@@ -72,7 +72,7 @@ impl Locals {
     #[inline(always)]
     pub(crate) fn take(&mut self, tag: LocalTag, usage: Usage) -> Result<(), AllocError>
         ensures taken { OnOk result ((before : List ItemValue) (item : ItemValue) → tag_of item.prefix ≡ Tag.Local tag
-            → usage_of item.bytes ≡ usage → LocalsStand before self.old → LocalsStand (item ∷ before) self.new) }
+            → usage_of item.bytes ≡ usage → LocalsRefine before self.old → LocalsRefine (item ∷ before) self.new) }
         ensures refused { OnErr result (IsTrue (adds_range tag self.old.half)) }
     {
         match tag {

@@ -2,7 +2,7 @@
 
 ghost use Rattle.std.specs.Prelude.{◌≡◌, ℕ, List, [], ◌++◌, Err, IfErr, OnOk};
 ghost use Rattle.descriptor_parse.specs.Fed.{RefusesAll};
-ghost use Rattle.descriptor_parse.specs.ties.Fed.{WasFed};
+ghost use Rattle.descriptor_parse.specs.representation.Fed.{WasFed};
 
 use crate::descriptor::Descriptor;
 use crate::fault::ParseError;
@@ -13,7 +13,7 @@ use std::fmt::Debug;
 
 /// A parser of a report descriptor that comes in pieces, as it is read off the bus (HID 1.11, section 6.2.2).
 ///
-/// An item is judged once all its bytes are there, and at most 258 bytes of an item that is not whole yet are kept. A
+/// An item is checked once all its bytes are there, and at most 258 bytes of an item that is not whole yet are kept. A
 /// refusal ends the parser for good: each later call answers it again.
 ///
 /// ```rust
@@ -31,16 +31,16 @@ use std::fmt::Debug;
 pub struct Parser {
     reading: Reading,
     refused: Option<ParseError>,
-    ghost stands: { ∥ ((text : List ℕ) × WasFed text reading refused) ∥₁ },
+    ghost refines: { ∥ ((text : List ℕ) × WasFed text reading refused) ∥₁ },
 }
 
 impl Parser {
     ghost use Rattle.descriptor_parse.specs.Parse.{Answers, MayGoOn};
-    ghost use Rattle.descriptor_parse.specs.ties.StandsFor.{StandsFor, HasRefused};
+    ghost use Rattle.descriptor_parse.specs.representation.Refines.{Refines, HasRefused};
 
     /// Makes a parser that was fed nothing. It takes no memory yet.
     pub fn new(alloc: Global) -> Parser
-        ensures { StandsFor [] result }
+        ensures { Refines [] result }
     {
         Parser {
             reading: Reading::new(alloc),
@@ -55,11 +55,11 @@ impl Parser {
     /// `TooLong` comes once every item that begins at 4,096 or before is whole.
     pub fn feed(&mut self, piece: &[u8]) -> Result<(), ParseError>
         // The parser stands for all that it was fed.
-        ensures fed { (text : List ℕ) → StandsFor text self.old → StandsFor (text ++ piece.now) self.new }
+        ensures fed { (text : List ℕ) → Refines text self.old → Refines (text ++ piece.now) self.new }
         // A refusal is that of every text that begins so.
-        ensures refused { (text : List ℕ) → StandsFor text self.old → IfErr result (RefusesAll (text ++ piece.now)) }
+        ensures refused { (text : List ℕ) → Refines text self.old → IfErr result (RefusesAll (text ++ piece.now)) }
         // While it goes on, the bytes so far show no fault but that they end within an item or a collection.
-        ensures goes_on { (text : List ℕ) → StandsFor text self.old → OnOk result (MayGoOn (text ++ piece.now)) }
+        ensures goes_on { (text : List ℕ) → Refines text self.old → OnOk result (MayGoOn (text ++ piece.now)) }
         // A refusal is for good.
         ensures for_good { IfErr result (λ e. HasRefused e self.new) }
         ensures again { (e : ParseError) → HasRefused e self.old → result ≡ Err e }
@@ -78,7 +78,7 @@ impl Parser {
 
     /// Ends the text: its descriptor, or its first fault.
     pub fn finish(self) -> Result<Descriptor, ParseError>
-        ensures answers { (text : List ℕ) → StandsFor text self → Answers text result }
+        ensures answers { (text : List ℕ) → Refines text self → Answers text result }
         ensures again { (e : ParseError) → HasRefused e self → result ≡ Err e }
     {
         let Parser { reading, refused } = self;

@@ -3,12 +3,12 @@
 ghost use Rattle.std.specs.Prelude.{◌≡◌, ◌≤◌, [], ◌∷◌, MatchOption, length, take, drop};
 ghost use Rattle.std.specs.Iterator.{YieldsFirst, YieldsFirstBy, item_count};
 ghost use Rattle.descriptor_parse.specs.Descriptor.{usage_list};
-ghost use Rattle.descriptor_parse.specs.ties.CountsStand.{StandTogether};
+ghost use Rattle.descriptor_parse.specs.representation.CountsRefine.{RefineTogether};
 ghost use Rattle.descriptor_parse.specs.FieldView.{field_view};
-ghost use Rattle.descriptor_parse.specs.ties.FieldsLeft.{fields_left, IsNext};
-ghost use Rattle.descriptor_parse.specs.ties.Linked.{AreLinked, ends_of};
+ghost use Rattle.descriptor_parse.specs.representation.FieldsLeft.{fields_left, IsNext};
+ghost use Rattle.descriptor_parse.specs.representation.Linked.{AreLinked, ends_of};
 
-use crate::descriptor::start_of;
+use crate::descriptor::first_range;
 use crate::field::{Field, Kind};
 use crate::field_usages::FieldUsages;
 use crate::reports::Link;
@@ -32,15 +32,15 @@ pub struct ReportFields<'a> {
 impl<'a> Model for ReportFields<'a> {
     ghost use Rattle.std.specs.Prelude.{ℕ, List};
     ghost use Rattle.descriptor_parse.specs.declared.field.Field.{Field};
-    ghost use Rattle.descriptor_parse.specs.ties.FieldsLeft.{fields_left, IsNext};
-    ghost use Rattle.descriptor_parse.specs.ties.CountsStand.{StandTogether};
-    ghost use Rattle.descriptor_parse.specs.ties.Linked.{AreLinked, ends_of};
+    ghost use Rattle.descriptor_parse.specs.representation.FieldsLeft.{fields_left, IsNext};
+    ghost use Rattle.descriptor_parse.specs.representation.CountsRefine.{RefineTogether};
+    ghost use Rattle.descriptor_parse.specs.representation.Linked.{AreLinked, ends_of};
 
     ghost Value = { List (Field × List (ℕ × ℕ)) };
 
     ghost view = { λ s. fields_left s.kind s.id s.next s.fields.now (ends_of s.links.now) s.ranges.now };
 
-    ghost invariant = { λ s. ∥ StandTogether 0 (ends_of s.links.now) s.ranges.now s.counts.now ∥₁
+    ghost invariant = { λ s. ∥ RefineTogether 0 (ends_of s.links.now) s.ranges.now s.counts.now ∥₁
         × AreLinked s.fields.now s.links.now × IsNext s.kind s.id s.next s.fields.now };
 }
 
@@ -54,7 +54,7 @@ impl<'a> ReportFields<'a> {
         ranges: &'a [(u32, u32)],
         counts: &'a [u32],
     ) -> ReportFields<'a>
-        requires together { ∥ StandTogether 0 (ends_of links.now) ranges.now counts.now ∥₁ }
+        requires together { ∥ RefineTogether 0 (ends_of links.now) ranges.now counts.now ∥₁ }
         requires linked { AreLinked fields.now links.now }
         requires next { IsNext kind id first fields.now }
         ensures { result ≡ fields_left kind id first fields.now (ends_of links.now) ranges.now }
@@ -78,7 +78,7 @@ impl<'a> ReportFields<'a> {
         let Some(link) = self.links.get(place) else {
             return None;
         };
-        let start = start_of(self.links, place);
+        let start = first_range(self.links, place);
         let ranges = between(self.ranges, start, link.end);
         let counts = between(self.counts, start, link.end);
         self.next = link.next;

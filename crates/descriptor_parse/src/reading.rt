@@ -5,7 +5,7 @@ ghost use Rattle.descriptor_parse.specs.Items.{item_size, front_item};
 ghost use Rattle.descriptor_parse.specs.ItemViews.{item_view};
 ghost use Rattle.descriptor_parse.specs.Fed.{RefusesAll};
 ghost use Rattle.descriptor_parse.specs.Parse.{Answers};
-ghost use Rattle.descriptor_parse.specs.ties.Fed.{AreBytes, IsAt, IsFront};
+ghost use Rattle.descriptor_parse.specs.representation.Fed.{AreBytes, IsAt, IsFront};
 
 use crate::descriptor::Descriptor;
 use crate::fault::{ParseError, ParseFault};
@@ -30,7 +30,7 @@ pub(crate) struct Reading {
 }
 
 impl Reading {
-    ghost use Rattle.descriptor_parse.specs.ties.Fed.{IsReading};
+    ghost use Rattle.descriptor_parse.specs.representation.Fed.{IsReading};
 
     pub(crate) fn new(alloc: Global) -> Reading
         ensures { IsReading [] result }
@@ -82,7 +82,7 @@ impl Reading {
 }
 
 impl Reading {
-    ghost use Rattle.descriptor_parse.specs.ties.Fed.{IsReading};
+    ghost use Rattle.descriptor_parse.specs.representation.Fed.{IsReading};
 
     /// Ends the text: its descriptor, or that it ends too early.
     pub(crate) fn finish(self) -> Result<Descriptor, ParseError>
@@ -174,7 +174,7 @@ pub(crate) fn read_items<'a>(
 
 /// Judges and takes a whole item of so many bytes: the offset after it.
 ///
-/// An item that reaches past the greatest length of a text is judged, and never taken.
+/// An item that reaches past the greatest length of a text is checked, and never taken.
 #[inline(always)]
 pub(crate) fn take_item(
     state: &mut State,
@@ -191,7 +191,7 @@ pub(crate) fn take_item(
 {
     let after = item.offset.wrapping_add(size);
     if after > MAX_LEN {
-        return Err(judge_last(state, item.offset, item.prefix, item.bytes));
+        return Err(check_last(state, item.offset, item.prefix, item.bytes));
     }
     match state.step(item) {
         Ok(()) => Ok(after),
@@ -210,7 +210,7 @@ const TOO_LONG: ParseError = ParseError {
 /// The error of a text with an item that reaches past its greatest length: that item's fault, or that the text is too
 /// long.
 #[inline(never)]
-fn judge_last(state: &State, offset: usize, prefix: u8, bytes: &[u8]) -> ParseError
+fn check_last(state: &State, offset: usize, prefix: u8, bytes: &[u8]) -> ParseError
     requires few { prefix ≢ 254 → length bytes.now ≤ 4 }
     requires not_three { prefix ≢ 254 → length bytes.now ≢ 3 }
     ensures { (text rest : List ℕ) → IsAt text rest offset state.now
@@ -221,7 +221,7 @@ fn judge_last(state: &State, offset: usize, prefix: u8, bytes: &[u8]) -> ParseEr
         prefix,
         bytes,
     };
-    match state.judge(&item) {
+    match state.check(&item) {
         Some(fault) => ParseError { fault, offset },
         None => TOO_LONG,
     }

@@ -6,11 +6,11 @@ ghost use Rattle.descriptor_parse.specs.Tags.{tag_of};
 ghost use Rattle.descriptor_parse.specs.Globals.{unsigned, in_force, report_size, report_count, usage_page};
 ghost use Rattle.descriptor_parse.specs.Locals.{usages_since_main};
 ghost use Rattle.descriptor_parse.specs.Fields.{is_constant};
-ghost use Rattle.descriptor_parse.specs.ties.GlobalsOf.{globals_of};
-ghost use Rattle.descriptor_parse.specs.ties.Linked.{AreLinked, HasFirst, ends_of};
-ghost use Rattle.descriptor_parse.specs.ties.DescriptorView.{value_of};
-ghost use Rattle.descriptor_parse.specs.ties.LocalsStand.{LocalsStand};
-ghost use Rattle.descriptor_parse.specs.ties.ReportsStand.{CanLink, ReportsStand, FitsData, Declares, declares, fills, field_by};
+ghost use Rattle.descriptor_parse.specs.representation.GlobalsOf.{globals_of};
+ghost use Rattle.descriptor_parse.specs.representation.Linked.{AreLinked, HasFirst, ends_of};
+ghost use Rattle.descriptor_parse.specs.representation.DescriptorView.{value_of};
+ghost use Rattle.descriptor_parse.specs.representation.LocalsRefine.{LocalsRefine};
+ghost use Rattle.descriptor_parse.specs.representation.ReportsRefine.{CanLink, ReportsRefine, FitsData, Declares, declares, fills, field_by};
 ghost use Rattle.descriptor_parse.specs.declared.tag.Tag.{Tag};
 ghost use Rattle.descriptor_parse.specs.declared.tag.MainTag.{MainTag};
 
@@ -61,7 +61,7 @@ pub(crate) struct Reports {
 
 impl Reports {
     pub(crate) fn new(alloc: Global) -> Reports
-        ensures { ReportsStand [] result }
+        ensures { ReportsRefine [] result }
     {
         Reports {
             totals: Totals::new(alloc),
@@ -77,7 +77,7 @@ impl Reports {
     /// Notes a Global item: whether it is a Report ID.
     pub(crate) fn note(&mut self, tag: GlobalTag)
         ensures { (before : List ItemValue) (item : ItemValue) → tag_of item.prefix ≡ Tag.Global tag
-            → ReportsStand before self.old → ReportsStand (item ∷ before) self.new }
+            → ReportsRefine before self.old → ReportsRefine (item ∷ before) self.new }
     {
         match tag {
             GlobalTag::ReportId => self.has_ids = true,
@@ -95,8 +95,8 @@ impl Reports {
         locals: &Locals,
     ) -> Result<(), AllocError>
         ensures taken { OnOk result ((before : List ItemValue) (item : ItemValue) → tag_of item.prefix ≡ Tag.Main (MainTag.Data kind)
-            → unsigned item.bytes ≡ flags → globals.now ≡ globals_of (in_force before) → LocalsStand before locals.now
-            → FitsData before item → length before ≤ 4096 → ReportsStand before self.old → ReportsStand (item ∷ before) self.new) }
+            → unsigned item.bytes ≡ flags → globals.now ≡ globals_of (in_force before) → LocalsRefine before locals.now
+            → FitsData before item → length before ≤ 4096 → ReportsRefine before self.old → ReportsRefine (item ∷ before) self.new) }
         ensures refused { OnErr result (IsTrue (fills globals.now)) }
     {
         let more = (globals.size as u64).saturating_mul(globals.count as u64);

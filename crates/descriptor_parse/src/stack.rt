@@ -3,7 +3,7 @@
 ghost use Rattle.std.specs.Prelude.{◌≡◌, List, [], ◌∷◌, OnOk};
 ghost use Rattle.descriptor_parse.specs.Items.{ItemValue};
 ghost use Rattle.descriptor_parse.specs.Tags.{tag_of};
-ghost use Rattle.descriptor_parse.specs.ties.StackStands.{StackStands};
+ghost use Rattle.descriptor_parse.specs.representation.StackRefines.{StackRefines};
 ghost use Rattle.descriptor_parse.specs.declared.tag.Tag.{Tag};
 ghost use Rattle.descriptor_parse.specs.declared.tag.GlobalTag.{GlobalTag};
 
@@ -21,7 +21,7 @@ pub struct Stack<T: Drop> {
 impl<T: Copy + Drop> Stack<T> {
     /// These values, and none saved.
     pub fn new(alloc: Global, now: T) -> Stack<T>
-        ensures { (values : List ItemValue → T) → now ≡ values [] → StackStands values [] result }
+        ensures { (values : List ItemValue → T) → now ≡ values [] → StackRefines values [] result }
     {
         Stack {
             now,
@@ -34,7 +34,7 @@ impl<T: Copy + Drop> Stack<T> {
     pub fn save(&mut self) -> Result<(), AllocError>
         ensures { OnOk result ((values : List ItemValue → T) (before : List ItemValue) (item : ItemValue)
             → ((items : List ItemValue) → values (item ∷ items) ≡ values items)
-            → tag_of item.prefix ≡ Tag.Global GlobalTag.Push → StackStands values before self.old → StackStands values (item ∷ before) self.new) }
+            → tag_of item.prefix ≡ Tag.Global GlobalTag.Push → StackRefines values before self.old → StackRefines values (item ∷ before) self.new) }
     {
         self.saved.push(self.now)?;
         Ok(())
@@ -43,7 +43,7 @@ impl<T: Copy + Drop> Stack<T> {
     /// Puts the latest saved values in force again, if there are any.
     pub fn restore(&mut self)
         ensures { (values : List ItemValue → T) (before : List ItemValue) (item : ItemValue) → tag_of item.prefix ≡ Tag.Global GlobalTag.Pop
-            → StackStands values before self.old → StackStands values (item ∷ before) self.new }
+            → StackRefines values before self.old → StackRefines values (item ∷ before) self.new }
     {
         match self.saved.pop() {
             Some(values) => self.now = values,

@@ -7,10 +7,10 @@ ghost use Rattle.descriptor_parse.specs.Tags.{tag_of};
 ghost use Rattle.descriptor_parse.specs.Globals.{unsigned, in_force, report_id};
 ghost use Rattle.descriptor_parse.specs.Fields.{open_collections, report_bits};
 ghost use Rattle.descriptor_parse.specs.Faults.{fault_at};
-ghost use Rattle.descriptor_parse.specs.ties.GlobalsOf.{globals_of};
-ghost use Rattle.descriptor_parse.specs.ties.ReportsStand.{FitsData, fills};
-ghost use Rattle.descriptor_parse.specs.ties.Written.{usage_of};
-ghost use Rattle.descriptor_parse.specs.ties.StateStands.{StateStands, Takes, IsRefused, IsData, fault_of_data, fault_of_main, fault_of_global};
+ghost use Rattle.descriptor_parse.specs.representation.GlobalsOf.{globals_of};
+ghost use Rattle.descriptor_parse.specs.representation.ReportsRefine.{FitsData, fills};
+ghost use Rattle.descriptor_parse.specs.representation.Written.{usage_of};
+ghost use Rattle.descriptor_parse.specs.representation.StateRefines.{StateRefines, Takes, IsRefused, IsData, fault_of_data, fault_of_main, fault_of_global};
 ghost use Rattle.descriptor_parse.specs.declared.tag.Tag.{Tag};
 ghost use Rattle.descriptor_parse.specs.declared.tag.MainTag.{MainTag};
 ghost use Rattle.descriptor_parse.specs.declared.tag.GlobalTag.{GlobalTag};
@@ -51,7 +51,7 @@ pub struct State {
 
 impl State {
     pub(crate) fn new(alloc: Global) -> State
-        ensures { StateStands [] result }
+        ensures { StateRefines [] result }
     {
         State {
             globals: Stack::new(alloc, Globals::NONE),
@@ -63,14 +63,14 @@ impl State {
 
     /// The Globals in force.
     pub fn globals(&self) -> &Globals
-        ensures { (before : List ItemValue) → StateStands before self.now → result.now ≡ globals_of (in_force before) }
+        ensures { (before : List ItemValue) → StateRefines before self.now → result.now ≡ globals_of (in_force before) }
     {
         &self.globals.now
     }
 
     /// The bits so far of the report of a kind that has the ID in force.
     pub fn bits(&self, kind: Kind) -> u64
-        ensures { (before : List ItemValue) → StateStands before self.now → result ≡ report_bits kind (report_id before) before }
+        ensures { (before : List ItemValue) → StateRefines before self.now → result ≡ report_bits kind (report_id before) before }
     {
         self.reports.totals.bits(kind, self.globals.now.id)
     }
@@ -88,25 +88,25 @@ impl State {
     }
 
     /// The first fault of a whole item.
-    pub(crate) fn judge(&self, item: &Item<'_>) -> Option<ParseFault>
+    pub(crate) fn check(&self, item: &Item<'_>) -> Option<ParseFault>
         requires few { item.now.prefix ≢ 254 → length item.now.bytes.now ≤ 4 }
         requires not_three { item.now.prefix ≢ 254 → length item.now.bytes.now ≢ 3 }
-        ensures { (before : List ItemValue) → StateStands before self.now → result ≡ fault_at before (item_view item.now) }
+        ensures { (before : List ItemValue) → StateRefines before self.now → result ≡ fault_at before (item_view item.now) }
     {
         if item.prefix == LONG {
             return None;
         }
         match Tag::of(item.prefix) {
-            Tag::Main(tag) => self.judge_main(tag, unsigned(item.bytes)),
-            Tag::Global(tag) => self.judge_global(tag, item.bytes),
-            Tag::Local(tag) => self.locals.judge(tag, read_usage(item.bytes)),
+            Tag::Main(tag) => self.check_main(tag, unsigned(item.bytes)),
+            Tag::Global(tag) => self.check_global(tag, item.bytes),
+            Tag::Local(tag) => self.locals.check(tag, read_usage(item.bytes)),
             Tag::Skipped => None,
         }
     }
 
     /// The fault of a Global item.
     #[inline(always)]
-    fn judge_global(&self, tag: GlobalTag, bytes: &[u8]) -> Option<ParseFault>
+    fn check_global(&self, tag: GlobalTag, bytes: &[u8]) -> Option<ParseFault>
         requires { length bytes.now ≤ 4 }
         ensures { result ≡ fault_of_global tag (unsigned bytes.now) self.now }
     {
@@ -121,11 +121,11 @@ impl State {
 
     /// The fault of a Main item.
     #[inline(always)]
-    fn judge_main(&self, tag: MainTag, flags: u32) -> Option<ParseFault>
+    fn check_main(&self, tag: MainTag, flags: u32) -> Option<ParseFault>
         ensures { result ≡ fault_of_main tag flags self.now }
     {
         match tag {
-            MainTag::Data(_) => self.judge_data(flags),
+            MainTag::Data(_) => self.check_data(flags),
             MainTag::Collection if self.collections >= MAX_COLLECTIONS => Some(
                 ParseFault::CollectionDeep,
             ),
@@ -139,7 +139,7 @@ impl State {
 
     /// The fault of a data item.
     #[inline(always)]
-    fn judge_data(&self, flags: u32) -> Option<ParseFault>
+    fn check_data(&self, flags: u32) -> Option<ParseFault>
         ensures { result ≡ fault_of_data flags self.now }
     {
         let globals = &self.globals.now;
@@ -171,9 +171,9 @@ impl State {
     pub(crate) fn step(&mut self, item: &Item<'_>) -> Result<(), ParseFault>
         requires few { item.now.prefix ≢ 254 → length item.now.bytes.now ≤ 4 }
         requires not_three { item.now.prefix ≢ 254 → length item.now.bytes.now ≢ 3 }
-        ensures taken { OnOk result ((before : List ItemValue) → StateStands before self.old → length before ≤ 4096
+        ensures taken { OnOk result ((before : List ItemValue) → StateRefines before self.old → length before ≤ 4096
             → Takes before (item_view item.now) self.new) }
-        ensures refused { (before : List ItemValue) → StateStands before self.old → IfErr result (IsRefused before (item_view item.now)) }
+        ensures refused { (before : List ItemValue) → StateRefines before self.old → IfErr result (IsRefused before (item_view item.now)) }
     {
         // A long item is one of those that are skipped.
         match Tag::of(item.prefix) {
@@ -189,11 +189,11 @@ impl State {
     #[inline(always)]
     fn step_main(&mut self, tag: MainTag, flags: u32) -> Result<(), ParseFault>
         ensures taken { OnOk result ((before : List ItemValue) (item : ItemValue) → tag_of item.prefix ≡ Tag.Main tag → unsigned item.bytes ≡ flags
-            → StateStands before self.old → length before ≤ 4096 → Takes before item self.new) }
+            → StateRefines before self.old → length before ≤ 4096 → Takes before item self.new) }
         ensures refused { (before : List ItemValue) (item : ItemValue) → tag_of item.prefix ≡ Tag.Main tag → unsigned item.bytes ≡ flags
-            → StateStands before self.old → IfErr result (IsRefused before item) }
+            → StateRefines before self.old → IfErr result (IsRefused before item) }
     {
-        if let Some(fault) = self.judge_main(tag, flags) {
+        if let Some(fault) = self.check_main(tag, flags) {
             return Err(fault);
         }
         match self.take_main(tag, flags) {
@@ -206,11 +206,11 @@ impl State {
     fn step_global(&mut self, tag: GlobalTag, bytes: &[u8]) -> Result<(), ParseFault>
         requires { length bytes.now ≤ 4 }
         ensures taken { OnOk result ((before : List ItemValue) (item : ItemValue) → tag_of item.prefix ≡ Tag.Global tag → item.bytes ≡ bytes.now
-            → StateStands before self.old → Takes before item self.new) }
+            → StateRefines before self.old → Takes before item self.new) }
         ensures refused { (before : List ItemValue) (item : ItemValue) → tag_of item.prefix ≡ Tag.Global tag → item.bytes ≡ bytes.now
-            → StateStands before self.old → IfErr result (IsRefused before item) }
+            → StateRefines before self.old → IfErr result (IsRefused before item) }
     {
-        if let Some(fault) = self.judge_global(tag, bytes) {
+        if let Some(fault) = self.check_global(tag, bytes) {
             return Err(fault);
         }
         match self.take_global(tag, bytes) {
@@ -222,11 +222,11 @@ impl State {
     #[inline(always)]
     fn step_local(&mut self, tag: LocalTag, usage: Usage) -> Result<(), ParseFault>
         ensures taken { OnOk result ((before : List ItemValue) (item : ItemValue) → tag_of item.prefix ≡ Tag.Local tag → usage_of item.bytes ≡ usage
-            → StateStands before self.old → Takes before item self.new) }
+            → StateRefines before self.old → Takes before item self.new) }
         ensures refused { (before : List ItemValue) (item : ItemValue) → tag_of item.prefix ≡ Tag.Local tag → usage_of item.bytes ≡ usage
-            → StateStands before self.old → IfErr result (IsRefused before item) }
+            → StateRefines before self.old → IfErr result (IsRefused before item) }
     {
-        if let Some(fault) = self.locals.judge(tag, usage) {
+        if let Some(fault) = self.locals.check(tag, usage) {
             return Err(fault);
         }
         match self.locals.take(tag, usage) {
@@ -239,7 +239,7 @@ impl State {
     fn take_global(&mut self, tag: GlobalTag, bytes: &[u8]) -> Result<(), AllocError>
         requires { length bytes.now ≤ 4 }
         ensures taken { OnOk result ((before : List ItemValue) (item : ItemValue) → tag_of item.prefix ≡ Tag.Global tag → item.bytes ≡ bytes.now
-            → StateStands before self.old → fault_at before item ≡ None → StateStands (item ∷ before) self.new) }
+            → StateRefines before self.old → fault_at before item ≡ None → StateRefines (item ∷ before) self.new) }
         ensures refused { OnErr result (tag ≡ GlobalTag.Push) }
     {
         take_global(&mut self.globals, tag, bytes)?;
@@ -250,7 +250,7 @@ impl State {
     #[inline(always)]
     fn take_main(&mut self, tag: MainTag, flags: u32) -> Result<(), AllocError>
         ensures taken { OnOk result ((before : List ItemValue) (item : ItemValue) → tag_of item.prefix ≡ Tag.Main tag → unsigned item.bytes ≡ flags
-            → StateStands before self.old → length before ≤ 4096 → fault_at before item ≡ None → StateStands (item ∷ before) self.new) }
+            → StateRefines before self.old → length before ≤ 4096 → fault_at before item ≡ None → StateRefines (item ∷ before) self.new) }
         ensures refused { OnErr result (IsData tag × IsTrue (fills self.old.globals.now)) }
     {
         match tag {
@@ -271,7 +271,7 @@ impl State {
     fn take_data(&mut self, kind: Kind, flags: u32) -> Result<(), AllocError>
         ensures taken { OnOk result ((before : List ItemValue) (item : ItemValue) → tag_of item.prefix ≡ Tag.Main (MainTag.Data kind)
             → unsigned item.bytes ≡ flags → FitsData before item → length before ≤ 4096
-            → StateStands before self.old → StateStands (item ∷ before) self.new) }
+            → StateRefines before self.old → StateRefines (item ∷ before) self.new) }
         ensures refused { OnErr result (IsTrue (fills self.old.globals.now)) }
     {
         self.reports
@@ -283,7 +283,7 @@ impl State {
     #[inline(always)]
     fn open_collection(&mut self)
         ensures { (before : List ItemValue) (item : ItemValue) → tag_of item.prefix ≡ Tag.Main MainTag.Collection → open_collections before < 16
-            → StateStands before self.old → StateStands (item ∷ before) self.new }
+            → StateRefines before self.old → StateRefines (item ∷ before) self.new }
     {
         self.collections = self.collections.saturating_add(1);
         self.locals.clear();
@@ -292,7 +292,7 @@ impl State {
     #[inline(always)]
     fn close_collection(&mut self)
         ensures { (before : List ItemValue) (item : ItemValue) → tag_of item.prefix ≡ Tag.Main MainTag.EndCollection → 0 < open_collections before
-            → StateStands before self.old → StateStands (item ∷ before) self.new }
+            → StateRefines before self.old → StateRefines (item ∷ before) self.new }
     {
         self.collections = self.collections.saturating_sub(1);
         self.locals.clear();

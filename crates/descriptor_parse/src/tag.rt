@@ -2,7 +2,7 @@
 
 ghost use Rattle.std.specs.Prelude.{◌≡◌};
 ghost use Rattle.descriptor_parse.specs.Tags.{tag_of};
-ghost use Rattle.descriptor_parse.specs.ties.TagTable.{tag_by};
+ghost use Rattle.descriptor_parse.specs.representation.TagTable.{tag_by};
 
 use crate::field::Kind;
 

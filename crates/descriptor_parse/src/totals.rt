@@ -5,7 +5,7 @@ ghost use Rattle.descriptor_parse.specs.Tags.{same_kind};
 ghost use Rattle.descriptor_parse.specs.declared.field.Kind.{Kind};
 ghost use Rattle.descriptor_parse.specs.Descriptor.{bits_on, no_bits};
 ghost use Rattle.descriptor_parse.specs.Readers.{is_of_report};
-ghost use Rattle.descriptor_parse.specs.ties.Totals.{bits_in, first_in, first_on, no_field, no_reports};
+ghost use Rattle.descriptor_parse.specs.representation.Totals.{bits_in, first_in, first_on, no_field, no_reports};
 
 use crate::field::{Field, Kind};
 use std::alloc::{AllocError, Global};

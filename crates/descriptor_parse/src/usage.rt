@@ -1,7 +1,7 @@
 //! A usage as it is written (HID 1.11, 6.2.2.8).
 
 ghost use Rattle.std.specs.Prelude.{◌≡◌, ◌≢◌, ◌≤◌, length};
-ghost use Rattle.descriptor_parse.specs.ties.Written.{usage_of, usage_on};
+ghost use Rattle.descriptor_parse.specs.representation.Written.{usage_of, usage_on};
 
 use crate::number::unsigned;
 

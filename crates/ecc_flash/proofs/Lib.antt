@@ -1,4 +1,4 @@
-mod Law
+mod Theorem
 pub mod Readings
 pub mod Images
 pub mod OfCells

@@ -11,7 +11,7 @@ use Rattle.ecc_flash.specs.Units.{IsEight, IsPair, IsCheckOf, Lacks}
 use Rattle.ecc_flash.specs.Reading.{blank, spoiled, same, paired, is_word, check_of, slot_read}
 use Rattle.ecc_flash.specs.Model.{WriteUnit, MayRead, MayBeErased}
 use Rattle.ecc_flash.specs.Paired.{IsChecked, IsKept}
-use Rattle.ecc_flash.proofs.Law.{one_word}
+use Rattle.ecc_flash.proofs.Theorem.{one_word}
 
 both : (a b : Bool) → (a && b) ≡ true → (a ≡ true) × (b ≡ true)
 both true true e = (refl, refl)

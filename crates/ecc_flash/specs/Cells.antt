@@ -1,4 +1,4 @@
--- Believed: the cells of a write unit, those of the error correction among them, and what they read as.
+-- Trusted: the cells of a write unit, those of the error correction among them, and what they read as.
 use Rattle.shapes.specs.Shapes.{Bytes}
 use Rattle.std.specs.Prelude.{◌≡◌, ℕ, ◌++◌, ◌<◌, Option, None, Some, length, slice_index, replicate}
 use Rattle.std.specs.Int.{bit_at}

@@ -1,4 +1,4 @@
--- Believed: which unit operations an operation of the adapter makes, and a flash whose power fails inside one of them.
+-- Trusted: which unit operations an operation of the adapter makes, and a flash whose power fails inside one of them.
 use Rattle.shapes.specs.Shapes.{Bytes}
 use Rattle.std.specs.Prelude.{◌≡◌, ℕ, zero, suc, ◌+◌, ◌*◌, Option, None, Some, true, replicate}
 use Rattle.flash_model.specs.FlashOperation.{FlashOperation, programs, erases}

@@ -1,4 +1,4 @@
--- Believed: what a write unit holds, and what a program and an erase make of it.
+-- Trusted: what a write unit holds, and what a program and an erase make of it.
 use Rattle.shapes.specs.Shapes.{Bytes}
 use Rattle.std.specs.Prelude.{◌≡◌, ℕ, ◌⊎◌, Option, None, Some}
 use Rattle.ecc_flash.specs.Units.{IsEight, Lacks}

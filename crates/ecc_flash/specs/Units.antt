@@ -1,4 +1,4 @@
--- Believed: what a write unit of eight bytes may read as, and how two of them hold one word.
+-- Trusted: what a write unit of eight bytes may read as, and how two of them hold one word.
 use Rattle.shapes.specs.Shapes.{Bytes}
 use Rattle.std.specs.Prelude.{◌≡◌, ℕ, ◌+◌, ◌%◌, ◌<◌, ◌≤◌, length, slice_index, bit_xor}
 use Rattle.std.specs.Int.{bit_at}

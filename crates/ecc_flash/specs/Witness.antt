@@ -1,4 +1,4 @@
--- Believed: what is known of the units of a flash in memory, and a code.
+-- Trusted: what is known of the units of a flash in memory, and a code.
 use Rattle.shapes.specs.Shapes.{Bytes}
 use Rattle.std.specs.Prelude.{ℕ, ◌+◌, ◌*◌, Some, true, if◌then◌else◌, nat_lt, List, ◌++◌, replicate, slice_index_or}
 use Rattle.ecc_flash.specs.Reading.{blank}

@@ -6,8 +6,8 @@
 //! complement. In the check each byte of the word is XORed with the byte before it, so that each bit
 //! of the word turns two bits of the check, and four of the unit.
 //!
-//! The promise is that of `NorFlash`: a torn operation leaves no other word than that which was
-//! meant (`laws`). A driver implements `EccFlash`; a log, a store and a keyboard run on a
+//! The guarantee is that of `NorFlash`: a torn operation leaves no other word than that which was
+//! meant (`theorems`). A driver implements `EccFlash`; a log, a store and a keyboard run on a
 //! `PairedFlash`.
 //!
 //! On a healthy flash a `PairedFlash` stores: each word of a log goes into a slot that is
@@ -20,9 +20,9 @@ ghost use Rattle.ecc_flash.specs.Model.{WriteUnit, MayHold, MayBeErased, OneUnit
 ghost use Rattle.ecc_flash.specs.UnitOperation.{UnitOperation, programs_unit, erases_units};
 
 pub mod cut;
-pub mod laws;
 pub mod paired;
 pub mod reading;
+pub mod theorems;
 pub mod witness;
 
 pub use cut::CutFlash;
@@ -46,7 +46,7 @@ pub const PAGE_UNITS: usize = 1024;
 ///   is set: where the chip tells that a bit was corrected in it, the answer is `None`.
 /// - `outcome` of `program_unit` and `erase_units`: that the error correction corrects one cell of a
 ///   unit at most, and that a program only clears cells and an erase only sets them; the rest follows
-///   (`laws`). A maker of a flash with another correction shows, or believes, these clauses alone.
+///   (`theorems`). A maker of a flash with another correction shows, or trusts, these clauses alone.
 /// - `others`: that no other unit, and no other page, is disturbed.
 ///
 /// ```rust

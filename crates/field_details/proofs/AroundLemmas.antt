@@ -1,4 +1,4 @@
--- The collections around a data item, by the numbers that are told.
+-- The collections around a data item, by the numbers that are reported.
 use Rattle.std.proofs.Common.{◌≡◌, ℕ, zero, suc, ◌+◌, ◌-◌, ◌<◌, List, [], ◌∷◌, ◌++◌, length, take, refl, arith, sym, ◌∙◌, ap, subst, true, false, cond, Some, None, inl, inr, length-append, reverse}
 use Rattle.std.proofs.lemmas.Bool.{cases_Bool, cases_lt, lt-ltb, ltb-true}
 use Rattle.std.proofs.lemmas.List.{reverse-append, reverse-reverse, take-append-le, append-nil}
@@ -14,7 +14,7 @@ use Rattle.field_details.specs.declared.detail.Detail.{Detail}
 use Rattle.field_details.specs.Collections.{open_now, collections, collection_count, without_last, innermost, declared_collection}
 use Rattle.field_details.specs.Details.{has_place, details, declared_detail}
 use Rattle.field_details.specs.Around.{all_around, around, inside_in, less_than}
-use Rattle.field_details.specs.ties.Around.{outer_in, height}
+use Rattle.field_details.specs.representation.Around.{outer_in, height}
 use Rattle.field_details.proofs.WalkLemmas.{count_is, open_more, open_fewer, open_same, collections_more, collections_same}
 
 -- ---- lists
@@ -141,13 +141,13 @@ around_same : (before : List ItemValue) (item : ItemValue) → has_place before 
 unfolding all_around
 around_same before item p = rw p refl
 
-told_more : (before : List ItemValue) (item : ItemValue) → has_place before item ≡ true → details (item ∷ before) ≡ details before ++ declared_detail before item ∷ []
+reported_more : (before : List ItemValue) (item : ItemValue) → has_place before item ≡ true → details (item ∷ before) ≡ details before ++ declared_detail before item ∷ []
 unfolding details
-told_more before item p = rw p refl
+reported_more before item p = rw p refl
 
-told_same : (before : List ItemValue) (item : ItemValue) → has_place before item ≡ false → details (item ∷ before) ≡ details before
+reported_same : (before : List ItemValue) (item : ItemValue) → has_place before item ≡ false → details (item ∷ before) ≡ details before
 unfolding details
-told_same before item p = rw p refl
+reported_same before item p = rw p refl
 
 -- a later item leaves the chain
 kept : (t : Tag) (before : List ItemValue) (item : ItemValue) (next : Option ℕ) (xs : List ℕ) → tag item ≡ t → IsChain (collections before) next xs → IsChain (collections (item ∷ before)) next xs
@@ -158,18 +158,18 @@ kept (Global g) before item next xs e c = rw (collections_same before item (ap i
 kept (Local l) before item next xs e c = rw (collections_same before item (ap is_collection e)) c
 kept Skipped before item next xs e c = rw (collections_same before item (ap is_collection e)) c
 
-by_lists : (groups : List Group) (told : List Detail) (all : List (List ℕ)) (detail : Detail) (opened : List ℕ) (place : ℕ) → length all ≡ length told
-    → IsChain groups (inside_in told place) (reverse (unwrap_or (slice_get all place) [])) → IsChain groups detail.inside (reverse opened)
-    → IsChain groups (inside_in (told ++ detail ∷ []) place) (reverse (unwrap_or (slice_get (all ++ opened ∷ []) place) []))
-by_lists groups told all detail opened place same old new =
-    elim (cases_lt place (length told)) [
-      | inl l ↦ (let l' : place < length all = omega arith in rw (get_before told (detail ∷ []) place l, get_before all (opened ∷ []) place l') old)
-      | inr g ↦ (elim (cases_lt (length told) place) [
-        | inl past ↦ (let a : slice_get (told ++ detail ∷ []) place ≡ None = slice_get_past (told ++ detail ∷ []) place (let n : length (told ++ detail ∷ []) ≡ length told + 1 = length-append told (detail ∷ []) in omega arith) in
+by_lists : (groups : List Group) (reported : List Detail) (all : List (List ℕ)) (detail : Detail) (opened : List ℕ) (place : ℕ) → length all ≡ length reported
+    → IsChain groups (inside_in reported place) (reverse (unwrap_or (slice_get all place) [])) → IsChain groups detail.inside (reverse opened)
+    → IsChain groups (inside_in (reported ++ detail ∷ []) place) (reverse (unwrap_or (slice_get (all ++ opened ∷ []) place) []))
+by_lists groups reported all detail opened place same old new =
+    elim (cases_lt place (length reported)) [
+      | inl l ↦ (let l' : place < length all = omega arith in rw (get_before reported (detail ∷ []) place l, get_before all (opened ∷ []) place l') old)
+      | inr g ↦ (elim (cases_lt (length reported) place) [
+        | inl past ↦ (let a : slice_get (reported ++ detail ∷ []) place ≡ None = slice_get_past (reported ++ detail ∷ []) place (let n : length (reported ++ detail ∷ []) ≡ length reported + 1 = length-append reported (detail ∷ []) in omega arith) in
             let b : slice_get (all ++ opened ∷ []) place ≡ None = slice_get_past (all ++ opened ∷ []) place (let n : length (all ++ opened ∷ []) ≡ length all + 1 = length-append all (opened ∷ []) in omega arith) in
             rw (a, b) refl)
-        | inr h ↦ (let a : place ≡ length told = omega arith in
-            let a' : slice_get (told ++ detail ∷ []) place ≡ Some detail = ap (slice_get (told ++ detail ∷ [])) a ∙ get_last told detail in
+        | inr h ↦ (let a : place ≡ length reported = omega arith in
+            let a' : slice_get (reported ++ detail ∷ []) place ≡ Some detail = ap (slice_get (reported ++ detail ∷ [])) a ∙ get_last reported detail in
             let b : place ≡ length all = omega arith in
             let b' : slice_get (all ++ opened ∷ []) place ≡ Some opened = ap (slice_get (all ++ opened ∷ [])) b ∙ get_last all opened in
             rw (a', b') new)
@@ -188,9 +188,9 @@ chain_around (item ∷ before) place =
     let new : IsChain (collections (item ∷ before)) (innermost (open_now before)) (reverse (open_now before)) =
     kept (tag item) before item _ _ refl (chain_open before) in
     elim (cases_Bool (has_place before item)) [
-      | inl p ↦ rw (around_more before item p, told_more before item p)
+      | inl p ↦ rw (around_more before item p, reported_more before item p)
           (by_lists (collections (item ∷ before)) (details before) (all_around before) (declared_detail before item) (open_now before) place (as_many before) old new)
-      | inr p ↦ rw (around_same before item p, told_same before item p) old
+      | inr p ↦ rw (around_same before item p, reported_same before item p) old
     ]
 
 -- ---- heights

@@ -9,11 +9,11 @@ use Rattle.descriptor_parse.specs.Items.{ItemValue}
 use Rattle.descriptor_parse.specs.Tags.{tag, tag_of, main_or_other, global_or_other, local_or_other, is_push, is_pop}
 use Rattle.descriptor_parse.specs.Globals.{in_force}
 use Rattle.descriptor_parse.specs.declared.stack.Stack.{Stack}
-use Rattle.descriptor_parse.specs.ties.StackStands.{StackStands}
-use Rattle.descriptor_parse.proofs.StackLemmas.{stand_more}
+use Rattle.descriptor_parse.specs.representation.StackRefines.{StackRefines}
+use Rattle.descriptor_parse.proofs.StackLemmas.{refine_more}
 use Rattle.field_details.specs.declared.extents.Extents.{Extents}
 use Rattle.field_details.specs.Extents.{is_with}
-use Rattle.field_details.specs.ties.Stands.{extents_by, extents_of}
+use Rattle.field_details.specs.representation.Relation.{extents_by, extents_of}
 
 -- ---- the prefixes that the parser of fields skips
 
@@ -99,15 +99,15 @@ extents_skipped item items =
 -- ---- what an item changes
 
 -- an item that is not skipped, other than Push and Pop, leaves them
-pub stand_known : (before : List ItemValue) (item : ItemValue) (t : Tag) (extents : Stack Extents) → tag item ≡ t → (t ≡ Skipped → ⊥)
-    → is_push t ≡ false → is_pop t ≡ false → StackStands extents_of before extents → StackStands extents_of (item ∷ before) extents
-stand_known before item t extents e known push pop s =
-    stand_more extents_of before item extents extents (ap is_push e ∙ push) (ap is_pop e ∙ pop)
+pub refine_known : (before : List ItemValue) (item : ItemValue) (t : Tag) (extents : Stack Extents) → tag item ≡ t → (t ≡ Skipped → ⊥)
+    → is_push t ≡ false → is_pop t ≡ false → StackRefines extents_of before extents → StackRefines extents_of (item ∷ before) extents
+refine_known before item t extents e known push pop s =
+    refine_more extents_of before item extents extents (ap is_push e ∙ push) (ap is_pop e ∙ pop)
     (s.now ∙ sym (extents_same item (in_force before) (other item t e known))) refl s
 
-pub stand_skipped : (before : List ItemValue) (item : ItemValue) (old new : Stack Extents) → tag item ≡ Skipped
+pub refine_skipped : (before : List ItemValue) (item : ItemValue) (old new : Stack Extents) → tag item ≡ Skipped
     → new.now ≡ extents_by (item.prefix - item.prefix % 4) item.bytes old.now → new.saved.items ≡ old.saved.items
-    → StackStands extents_of before old → StackStands extents_of (item ∷ before) new
-stand_skipped before item old new e set rest s =
-    stand_more extents_of before item old new (ap is_push e) (ap is_pop e)
+    → StackRefines extents_of before old → StackRefines extents_of (item ∷ before) new
+refine_skipped before item old new e set rest s =
+    refine_more extents_of before item old new (ap is_push e) (ap is_pop e)
     (set ∙ ap (extents_by (item.prefix - item.prefix % 4) item.bytes) s.now ∙ extents_skipped item (in_force before)) rest s

@@ -3,7 +3,7 @@ use Rattle.std.proofs.Common.{◌≡◌, ℕ, zero, suc, ◌+◌, ◌≤◌, Lis
 use Rattle.std.specs.Prelude.{filter, slice_get, ◌||◌}
 use Rattle.std.specs.List.{list_any}
 use Rattle.field_details.specs.Reports.{numbered}
-use Rattle.field_details.specs.ties.Asked.{left}
+use Rattle.field_details.specs.representation.Asked.{left}
 
 drop_past : {A : Type 0} (xs : List A) (n : ℕ) → length xs ≤ n → drop n xs ≡ []
 drop_past [] zero l = refl

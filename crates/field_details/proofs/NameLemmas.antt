@@ -13,7 +13,7 @@ use Rattle.descriptor_parse.specs.Faults.{onto, all_items}
 use Rattle.descriptor_parse.proofs.ItemLemmas.{size_pos, items_end, items_short, items_more}
 use Rattle.field_details.specs.declared.naming.Naming.{Naming}
 use Rattle.field_details.specs.Names.{waiting, made, names_made, before_offset, names_at}
-use Rattle.field_details.specs.ties.Asked.{waits, names_left}
+use Rattle.field_details.specs.representation.Asked.{waits, names_left}
 use Rattle.field_details.proofs.WalkLemmas.{long_skipped}
 
 -- items that were taken, newest first, back in front of the others

@@ -8,8 +8,8 @@ use Rattle.field_details.specs.declared.collection.Collection.{Collection as Gro
 use Rattle.field_details.specs.Collections.{collections}
 use Rattle.field_details.specs.Details.{details}
 use Rattle.field_details.specs.Around.{around, application, is_application, inside_in}
-use Rattle.field_details.specs.ties.Around.{outer_in, height}
-use Rattle.field_details.specs.ties.Asked.{outwards, all_outwards, application_in}
+use Rattle.field_details.specs.representation.Around.{outer_in, height}
+use Rattle.field_details.specs.representation.Asked.{outwards, all_outwards, application_in}
 use Rattle.field_details.proofs.AroundLemmas.{IsChain, chain_around, lower}
 
 -- room for more of them changes nothing

@@ -14,20 +14,20 @@ use Rattle.descriptor_parse.specs.Globals.{report_size, report_count, report_id}
 use Rattle.descriptor_parse.specs.Fields.{report_bits, takes_bit}
 use Rattle.field_details.specs.declared.detail.Detail.{Detail}
 use Rattle.field_details.specs.Details.{declared_detail, details}
-use Rattle.field_details.specs.ties.Stands.{end_of, end_of_some, end_in}
+use Rattle.field_details.specs.representation.Relation.{end_of, end_of_some, end_in}
 use Rattle.field_details.specs.declared.report.ReportFacts.{ReportFacts}
 use Rattle.field_details.specs.Reports.{is_of_report, facts}
-use Rattle.field_details.specs.ties.Asked.{facts_in}
+use Rattle.field_details.specs.representation.Asked.{facts_in}
 
 -- one more at the end
-pub end_in_more : (kind : Kind) (id : ℕ) (told : List Detail) (last : Detail)
-    → end_in kind id (told ++ last ∷ []) ≡ cond (is_of_report kind id last) (end_of last) (end_in kind id told)
-end_in_more kind id told last =
-    let turned : reverse (told ++ last ∷ []) ≡ last ∷ reverse told = reverse-append told (last ∷ []) in
-    rw turned (elim (is_of_report kind id last) as (λ b. end_of_some (cond b (Some last) (find (is_of_report kind id) (reverse told)))
-    ≡ cond b (end_of last) (end_in kind id told)) [ true ↦ refl | false ↦ refl ])
+pub end_in_more : (kind : Kind) (id : ℕ) (reported : List Detail) (last : Detail)
+    → end_in kind id (reported ++ last ∷ []) ≡ cond (is_of_report kind id last) (end_of last) (end_in kind id reported)
+end_in_more kind id reported last =
+    let turned : reverse (reported ++ last ∷ []) ≡ last ∷ reverse reported = reverse-append reported (last ∷ []) in
+    rw turned (elim (is_of_report kind id last) as (λ b. end_of_some (cond b (Some last) (find (is_of_report kind id) (reverse reported)))
+    ≡ cond b (end_of last) (end_in kind id reported)) [ true ↦ refl | false ↦ refl ])
 
-pub end_in_none : (kind : Kind) (id : ℕ) (told : List Detail) → length told ≡ 0 → 0 ≡ end_in kind id told
+pub end_in_none : (kind : Kind) (id : ℕ) (reported : List Detail) → length reported ≡ 0 → 0 ≡ end_in kind id reported
 end_in_none kind id [] none = refl
 end_in_none kind id (x ∷ xs) none = absurd (omega arith)
 
@@ -111,14 +111,14 @@ after_item (Local l) kind id before item e known = rw (details_other before item
 after_item Skipped kind id before item e known = rw (details_other before item (ap is_data e), bits_other kind id before item (ap is_data e)) known
 
 -- the bit after the last declared item of a report is that after all its bits
-pub told_bits : (kind : Kind) (id : ℕ) (before : List ItemValue) → end_in kind id (details before) ≡ min (2 ^ 64 - 1) (report_bits kind id before)
+pub reported_bits : (kind : Kind) (id : ℕ) (before : List ItemValue) → end_in kind id (details before) ≡ min (2 ^ 64 - 1) (report_bits kind id before)
 unfolding details report_bits
-told_bits kind id [] = refl
-told_bits kind id (item ∷ before) = after_item (tag item) kind id before item refl (told_bits kind id before)
+reported_bits kind id [] = refl
+reported_bits kind id (item ∷ before) = after_item (tag item) kind id before item refl (reported_bits kind id before)
 
 abbrev pub facts_with : Kind → ℕ → ℕ → ReportFacts
 facts_with kind id bits = record { kind = kind; id = id; bits = bits }
 
 -- a report's facts are those of all its data items
 pub facts_are : (items : List ItemValue) (p : ℕ × Detail) → facts_in (details items) p ≡ facts items p
-facts_are items p = ap (facts_with p.1.kind p.1.id) (told_bits p.1.kind p.1.id items)
+facts_are items p = ap (facts_with p.1.kind p.1.id) (reported_bits p.1.kind p.1.id items)

@@ -15,20 +15,20 @@ use Rattle.descriptor_parse.specs.Items.{ItemValue, data_size, item_size, front_
 use Rattle.descriptor_parse.specs.Tags.{tag, tag_of, is_main, is_data, is_collection, is_end_collection}
 use Rattle.descriptor_parse.specs.Globals.{unsigned, in_force, report_id}
 use Rattle.descriptor_parse.specs.declared.globals.Globals.{Globals}
-use Rattle.descriptor_parse.specs.ties.GlobalsOf.{globals_of}
+use Rattle.descriptor_parse.specs.representation.GlobalsOf.{globals_of}
 use Rattle.descriptor_parse.specs.Locals.{since_main, usage_number}
 use Rattle.descriptor_parse.specs.Fields.{takes_bit, report_bits}
 use Rattle.descriptor_parse.specs.declared.usage.Usage.{Usage as Written}
-use Rattle.descriptor_parse.specs.ties.Written.{usage_of, usage_on}
+use Rattle.descriptor_parse.specs.representation.Written.{usage_of, usage_on}
 use Rattle.descriptor_parse.proofs.LocalLemmas.{number_on}
-use Rattle.field_details.specs.ties.Asked.{AreShort}
+use Rattle.field_details.specs.representation.Asked.{AreShort}
 use Rattle.field_details.specs.declared.walk.Walk.{Walk}
 use Rattle.field_details.specs.declared.extents.Extents.{Extents}
 use Rattle.field_details.specs.Collections.{is_usage, first_usage, open_now, collections, collection_count, without_last, innermost, declared_collection}
 use Rattle.field_details.specs.Details.{details, declared_detail}
-use Rattle.field_details.specs.ties.Stands.{WalkStands, extents_of, detail_by}
-use Rattle.descriptor_parse.specs.ties.StackStands.{StackStands}
-use Rattle.field_details.proofs.ExtentLemmas.{stand_known}
+use Rattle.field_details.specs.representation.Relation.{WalkRefines, extents_of, detail_by}
+use Rattle.descriptor_parse.specs.representation.StackRefines.{StackRefines}
+use Rattle.field_details.proofs.ExtentLemmas.{refine_known}
 use Rattle.field_details.proofs.ReportLemmas.{details_other}
 
 pub on_ok : {A E : Type 0} (r : Result A E) {P Q : Type 0} → (P → Q) → OnOk r P → OnOk r Q
@@ -60,9 +60,9 @@ mapped_or f None x = refl
 mapped_or f (Some y) x = refl
 
 -- the usage that was kept is that of a collection
-pub usage_told : (page : ℕ) (o : Option (List ℕ)) → option_map (usage_on page) (option_map usage_of o) ≡ option_map (usage_number page) o
-usage_told page None = refl
-usage_told page (Some bytes) = ap Some (number_on page bytes)
+pub usage_reported : (page : ℕ) (o : Option (List ℕ)) → option_map (usage_on page) (option_map usage_of o) ≡ option_map (usage_number page) o
+usage_reported page None = refl
+usage_reported page (Some bytes) = ap Some (number_on page bytes)
 
 -- what the values in force make of a data item
 pub detail_is : (before : List ItemValue) (item : ItemValue) (k : Kind) (g : Globals) (x : Extents) (bit : ℕ) (inside : Option ℕ)
@@ -98,48 +98,48 @@ pub collections_same : (before : List ItemValue) (item : ItemValue) → is_colle
 unfolding collections
 collections_same before item o = rw o refl
 
-plain : (before : List ItemValue) (item : ItemValue) (old new : Walk) → IsPlain (tag item) → StackStands extents_of (item ∷ before) new.extents
-    → new.usage ≡ option_map usage_of (first_usage (since_main (item ∷ before))) → new.opened ≡ old.opened → new.told ≡ old.told
-    → WalkStands before old → WalkStands (item ∷ before) new
-plain before item old new p extents usage opened told s = record {
+plain : (before : List ItemValue) (item : ItemValue) (old new : Walk) → IsPlain (tag item) → StackRefines extents_of (item ∷ before) new.extents
+    → new.usage ≡ option_map usage_of (first_usage (since_main (item ∷ before))) → new.opened ≡ old.opened → new.reported ≡ old.reported
+    → WalkRefines before old → WalkRefines (item ∷ before) new
+plain before item old new p extents usage opened reported s = record {
   extents = extents;
   usage = usage;
   opened = ap (λ v. v.items) opened ∙ s.opened ∙ sym (open_same before item p.opens p.ends);
-  fields = ap (λ d. d.fields.items) told ∙ s.fields ∙ sym (details_other before item p.items);
-  groups = ap (λ d. d.collections.items) told ∙ s.groups ∙ sym (collections_same before item p.opens);
+  fields = ap (λ d. d.fields.items) reported ∙ s.fields ∙ sym (details_other before item p.items);
+  groups = ap (λ d. d.collections.items) reported ∙ s.groups ∙ sym (collections_same before item p.opens);
 }
 
 -- a Global item, or one that is skipped
-pub stand_extents : (before : List ItemValue) (item : ItemValue) (old new : Walk) → is_main (tag item) ≡ false → is_usage (tag item) ≡ false → StackStands extents_of (item ∷ before) new.extents
-    → new.usage ≡ old.usage → new.opened ≡ old.opened → new.told ≡ old.told → WalkStands before old → WalkStands (item ∷ before) new
-stand_extents before item old new m u extents usage opened told s =
-    plain before item old new (not_main (tag item) m) extents (usage ∙ s.usage ∙ sym (ap (option_map usage_of) (usage_same before item m u))) opened told s
+pub refine_extents : (before : List ItemValue) (item : ItemValue) (old new : Walk) → is_main (tag item) ≡ false → is_usage (tag item) ≡ false → StackRefines extents_of (item ∷ before) new.extents
+    → new.usage ≡ old.usage → new.opened ≡ old.opened → new.reported ≡ old.reported → WalkRefines before old → WalkRefines (item ∷ before) new
+refine_extents before item old new m u extents usage opened reported s =
+    plain before item old new (not_main (tag item) m) extents (usage ∙ s.usage ∙ sym (ap (option_map usage_of) (usage_same before item m u))) opened reported s
 
-local_extents : (before : List ItemValue) (item : ItemValue) (l : LocalTag) (walk : Walk) → tag item ≡ Local l → WalkStands before walk → StackStands extents_of (item ∷ before) walk.extents
-local_extents before item l walk e s = stand_known before item (Local l) walk.extents e (λ no. cc) refl refl s.extents
+local_extents : (before : List ItemValue) (item : ItemValue) (l : LocalTag) (walk : Walk) → tag item ≡ Local l → WalkRefines before walk → StackRefines extents_of (item ∷ before) walk.extents
+local_extents before item l walk e s = refine_known before item (Local l) walk.extents e (λ no. cc) refl refl s.extents
 
 no_usage : (l : LocalTag) → (l ≡ Usage → ⊥) → is_usage (Local l) ≡ false
 no_usage Usage n = absurd (n refl)
 no_usage _ n = refl
 
 -- a Local item other than Usage
-pub stand_local : (before : List ItemValue) (item : ItemValue) (l : LocalTag) (walk : Walk) → tag item ≡ Local l → (l ≡ Usage → ⊥)
-    → WalkStands before walk → WalkStands (item ∷ before) walk
-stand_local before item l walk e n s =
-    stand_extents before item walk walk (ap is_main e) (ap is_usage e ∙ no_usage l n) (local_extents before item l walk e s) refl refl refl s
+pub refine_local : (before : List ItemValue) (item : ItemValue) (l : LocalTag) (walk : Walk) → tag item ≡ Local l → (l ≡ Usage → ⊥)
+    → WalkRefines before walk → WalkRefines (item ∷ before) walk
+refine_local before item l walk e n s =
+    refine_extents before item walk walk (ap is_main e) (ap is_usage e ∙ no_usage l n) (local_extents before item l walk e s) refl refl refl s
 
-pub stand_usage : (before : List ItemValue) (item : ItemValue) (usage : Written) (old new : Walk) → tag item ≡ Local Usage → usage ≡ usage_of item.bytes
-    → new ≡ record old { usage = option_or old.usage (Some usage) } → WalkStands before old → WalkStands (item ∷ before) new
-stand_usage before item usage old new e u w s =
+pub refine_usage : (before : List ItemValue) (item : ItemValue) (usage : Written) (old new : Walk) → tag item ≡ Local Usage → usage ≡ usage_of item.bytes
+    → new ≡ record old { usage = option_or old.usage (Some usage) } → WalkRefines before old → WalkRefines (item ∷ before) new
+refine_usage before item usage old new e u w s =
     let extents : new.extents ≡ old.extents = ap (λ v. v.extents) w in
     plain before item old new (rw e (plain_local Usage)) (rw extents (local_extents before item Usage old e s))
     (ap (λ v. v.usage) w ∙ rw (s.usage, u, usage_more before item e) (sym (mapped_or usage_of (first_usage (since_main before)) item.bytes)))
-    (ap (λ v. v.opened) w) (ap (λ v. v.told) w) s
+    (ap (λ v. v.opened) w) (ap (λ v. v.reported) w) s
 
 -- ---- Main items
 
-main_extents : (before : List ItemValue) (item : ItemValue) (m : MainTag) (old new : Walk) → tag item ≡ Main m → new.extents ≡ old.extents → WalkStands before old → StackStands extents_of (item ∷ before) new.extents
-main_extents before item m old new e g s = rw g (stand_known before item (Main m) old.extents e (λ no. cc) refl refl s.extents)
+main_extents : (before : List ItemValue) (item : ItemValue) (m : MainTag) (old new : Walk) → tag item ≡ Main m → new.extents ≡ old.extents → WalkRefines before old → StackRefines extents_of (item ∷ before) new.extents
+main_extents before item m old new e g s = rw g (refine_known before item (Main m) old.extents e (λ no. cc) refl refl s.extents)
 
 main_usage : (before : List ItemValue) (item : ItemValue) (m : MainTag) → tag item ≡ Main m → None ≡ option_map usage_of (first_usage (since_main (item ∷ before)))
 main_usage before item m e = sym (ap (option_map usage_of) (usage_after_main before item (ap is_main e)))
@@ -155,11 +155,11 @@ unfolding details
 details_empty before item k e t = rw (e, t) refl
 
 -- a data item that takes a bit
-pub stand_placed : (before : List ItemValue) (item : ItemValue) (k : Kind) (old new : Walk) → tag item ≡ Main (Data k) → takes_bit before ≡ true
+pub refine_placed : (before : List ItemValue) (item : ItemValue) (k : Kind) (old new : Walk) → tag item ≡ Main (Data k) → takes_bit before ≡ true
     → new.extents ≡ old.extents → new.usage ≡ None → new.opened ≡ old.opened
-    → new.told.fields.items ≡ old.told.fields.items ++ declared_detail before item ∷ [] → new.told.collections ≡ old.told.collections
-    → WalkStands before old → WalkStands (item ∷ before) new
-stand_placed before item k old new e t extents usage opened fields groups s = record {
+    → new.reported.fields.items ≡ old.reported.fields.items ++ declared_detail before item ∷ [] → new.reported.collections ≡ old.reported.collections
+    → WalkRefines before old → WalkRefines (item ∷ before) new
+refine_placed before item k old new e t extents usage opened fields groups s = record {
   extents = main_extents before item (Data k) old new e extents s;
   usage = usage ∙ main_usage before item (Data k) e;
   opened = ap (λ v. v.items) opened ∙ s.opened ∙ sym (open_same before item (ap is_collection e) (ap is_end_collection e));
@@ -168,15 +168,15 @@ stand_placed before item k old new e t extents usage opened fields groups s = re
 }
 
 -- one that takes none
-pub stand_empty : (before : List ItemValue) (item : ItemValue) (k : Kind) (old new : Walk) → tag item ≡ Main (Data k) → takes_bit before ≡ false
-    → new.extents ≡ old.extents → new.usage ≡ None → new.opened ≡ old.opened → new.told ≡ old.told
-    → WalkStands before old → WalkStands (item ∷ before) new
-stand_empty before item k old new e t extents usage opened told s = record {
+pub refine_empty : (before : List ItemValue) (item : ItemValue) (k : Kind) (old new : Walk) → tag item ≡ Main (Data k) → takes_bit before ≡ false
+    → new.extents ≡ old.extents → new.usage ≡ None → new.opened ≡ old.opened → new.reported ≡ old.reported
+    → WalkRefines before old → WalkRefines (item ∷ before) new
+refine_empty before item k old new e t extents usage opened reported s = record {
   extents = main_extents before item (Data k) old new e extents s;
   usage = usage ∙ main_usage before item (Data k) e;
   opened = ap (λ v. v.items) opened ∙ s.opened ∙ sym (open_same before item (ap is_collection e) (ap is_end_collection e));
-  fields = ap (λ d. d.fields.items) told ∙ s.fields ∙ sym (details_empty before item k e t);
-  groups = ap (λ d. d.collections.items) told ∙ s.groups ∙ sym (collections_same before item (ap is_collection e));
+  fields = ap (λ d. d.fields.items) reported ∙ s.fields ∙ sym (details_empty before item k e t);
+  groups = ap (λ d. d.collections.items) reported ∙ s.groups ∙ sym (collections_same before item (ap is_collection e));
 }
 
 -- the number of the next collection
@@ -198,12 +198,12 @@ pub collections_more : (before : List ItemValue) (item : ItemValue) → tag item
 unfolding collections
 collections_more before item e = rw e refl
 
-pub stand_opened : (before : List ItemValue) (item : ItemValue) (old new : Walk) → tag item ≡ Main Collection
-    → new.extents ≡ old.extents → new.usage ≡ None → new.opened.items ≡ old.opened.items ++ length old.told.collections.items ∷ []
-    → new.told.fields ≡ old.told.fields → new.told.collections.items ≡ old.told.collections.items ++ declared_collection before item ∷ []
-    → WalkStands before old → WalkStands (item ∷ before) new
-stand_opened before item old new e extents usage opened fields groups s =
-    let number : length old.told.collections.items ≡ collection_count before = ap length s.groups ∙ count_is before in
+pub refine_opened : (before : List ItemValue) (item : ItemValue) (old new : Walk) → tag item ≡ Main Collection
+    → new.extents ≡ old.extents → new.usage ≡ None → new.opened.items ≡ old.opened.items ++ length old.reported.collections.items ∷ []
+    → new.reported.fields ≡ old.reported.fields → new.reported.collections.items ≡ old.reported.collections.items ++ declared_collection before item ∷ []
+    → WalkRefines before old → WalkRefines (item ∷ before) new
+refine_opened before item old new e extents usage opened fields groups s =
+    let number : length old.reported.collections.items ≡ collection_count before = ap length s.groups ∙ count_is before in
     record {
       extents = main_extents before item Collection old new e extents s;
       usage = usage ∙ main_usage before item Collection e;
@@ -216,20 +216,20 @@ pub open_fewer : (before : List ItemValue) (item : ItemValue) → tag item ≡ M
 unfolding open_now
 open_fewer before item e = rw e refl
 
-pub stand_closed : (before : List ItemValue) (item : ItemValue) (old new : Walk) → tag item ≡ Main EndCollection
-    → new.extents ≡ old.extents → new.usage ≡ None → new.opened.items ≡ without_last old.opened.items → new.told ≡ old.told
-    → WalkStands before old → WalkStands (item ∷ before) new
-stand_closed before item old new e extents usage opened told s = record {
+pub refine_closed : (before : List ItemValue) (item : ItemValue) (old new : Walk) → tag item ≡ Main EndCollection
+    → new.extents ≡ old.extents → new.usage ≡ None → new.opened.items ≡ without_last old.opened.items → new.reported ≡ old.reported
+    → WalkRefines before old → WalkRefines (item ∷ before) new
+refine_closed before item old new e extents usage opened reported s = record {
   extents = main_extents before item EndCollection old new e extents s;
   usage = usage ∙ main_usage before item EndCollection e;
   opened = opened ∙ ap without_last s.opened ∙ sym (open_fewer before item e);
-  fields = ap (λ d. d.fields.items) told ∙ s.fields ∙ sym (details_other before item (ap is_data e));
-  groups = ap (λ d. d.collections.items) told ∙ s.groups ∙ sym (collections_same before item (ap is_collection e));
+  fields = ap (λ d. d.fields.items) reported ∙ s.fields ∙ sym (details_other before item (ap is_data e));
+  groups = ap (λ d. d.collections.items) reported ∙ s.groups ∙ sym (collections_same before item (ap is_collection e));
 }
 
-pub stand_new : (walk : Walk) → StackStands extents_of [] walk.extents → walk.usage ≡ None → walk.opened.items ≡ [] → walk.told.fields.items ≡ [] → walk.told.collections.items ≡ [] → WalkStands [] walk
+pub refine_new : (walk : Walk) → StackRefines extents_of [] walk.extents → walk.usage ≡ None → walk.opened.items ≡ [] → walk.reported.fields.items ≡ [] → walk.reported.collections.items ≡ [] → WalkRefines [] walk
 unfolding open_now details collections
-stand_new walk extents usage opened fields groups = record { extents = extents; usage = usage; opened = opened; fields = fields; groups = groups }
+refine_new walk extents usage opened fields groups = record { extents = extents; usage = usage; opened = opened; fields = fields; groups = groups }
 
 -- a long item is skipped
 pub long_skipped : (prefix : ℕ) (t : Tag) → tag_of prefix ≡ t → (t ≡ Skipped → ⊥) → prefix ≢ 254

@@ -1,4 +1,4 @@
--- Believed: the fields of the parser among the data items that are told.
+-- Trusted: the fields of the parser among the data items that are reported.
 use Rattle.std.specs.Prelude.{◌-◌, ◌/◌, ◌%◌, ◌^◌, ◌==◌, min, not, Bool}
 use Rattle.descriptor_parse.specs.declared.field.Field.{Field}
 use Rattle.field_details.specs.declared.detail.Detail.{Detail}
@@ -20,6 +20,6 @@ field_of detail = record {
   array = detail.flags / 2 % 2 == 0;
 }
 
--- a field whose first bit is told as far as 64 bits count
+-- a field whose first bit is reported as far as 64 bits count
 abbrev pub as_counted : Field → Field
 as_counted field = record field { bit = min (2 ^ 64 - 1) field.bit }

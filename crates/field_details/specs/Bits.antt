@@ -1,4 +1,4 @@
--- Believed: the bits of a data item's data.
+-- Trusted: the bits of a data item's data.
 use Rattle.std.specs.Prelude.{ℕ, ◌/◌, ◌%◌, ◌^◌, ◌==◌, Bool}
 
 -- a bit is set, where bit 0 is the lowest

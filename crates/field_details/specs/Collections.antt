@@ -1,4 +1,4 @@
--- Believed: the collections of a text, and those around an item.
+-- Trusted: the collections of a text, and those around an item.
 use Rattle.std.specs.Prelude.{ℕ, ◌-◌, if◌then◌else◌, Bool, true, false, List, [], ◌∷◌, ◌++◌, length, filter, take, slice_get, Option, Some, None, option_map}
 use Rattle.std.specs.Option.{option_or}
 use Rattle.descriptor_parse.specs.declared.tag.Tag.{Tag}

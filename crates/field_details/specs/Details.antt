@@ -1,4 +1,4 @@
--- Believed: the data items of a text with all that the items before say of them.
+-- Trusted: the data items of a text with all that the items before say of them.
 use Rattle.std.specs.Prelude.{◌-◌, ◌^◌, min, if◌then◌else◌, Bool, ◌&&◌, List, [], ◌∷◌, ◌++◌}
 use Rattle.descriptor_parse.specs.Items.{ItemValue}
 use Rattle.descriptor_parse.specs.Tags.{tag, is_data}

@@ -1,4 +1,4 @@
--- Believed: the Global items that the parser of fields skips: physical extents, unit and unit exponent.
+-- Trusted: the Global items that the parser of fields skips: physical extents, unit and unit exponent.
 use Rattle.shapes.specs.Shapes.{Bytes}
 use Rattle.std.specs.Prelude.{ℕ, ◌-◌, ◌%◌, ◌==◌, if◌then◌else◌, nat_lt, Bool, List, [], ◌∷◌, ℤ, pos, ◌-ℤ◌, int_lt}
 use Rattle.descriptor_parse.specs.Items.{ItemValue}

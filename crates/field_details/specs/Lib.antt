@@ -7,4 +7,4 @@ pub mod AsFields
 pub mod Around
 pub mod Reports
 pub mod Names
-pub mod ties
+pub mod representation

@@ -1,4 +1,4 @@
--- Believed: the strings and designators of a Main item.
+-- Trusted: the strings and designators of a Main item.
 use Rattle.std.specs.Prelude.{ℕ, if◌then◌else◌, nat_lt, List, [], ◌∷◌, ◌++◌, filter, Option, None, Some, option_map}
 use Rattle.std.specs.Option.{option_to_list}
 use Rattle.descriptor_parse.specs.Items.{ItemValue}

@@ -1,4 +1,4 @@
--- Believed: the data items and collections that are asked for, and the reports that a descriptor declares.
+-- Trusted: the data items and collections that are asked for, and the reports that a descriptor declares.
 use Rattle.std.specs.Prelude.{ℕ, ◌+◌, ◌-◌, ◌^◌, ◌==◌, ◌&&◌, min, not, Bool, false, List, [], ◌∷◌, map, filter, take, Option, option_map, unwrap_or}
 use Rattle.std.specs.List.{list_any}
 use Rattle.descriptor_parse.specs.declared.field.Kind.{Kind}
@@ -24,19 +24,19 @@ is_of_report kind id detail = same_kind kind detail.kind && detail.id == id
 
 -- the data items that are not Constant, those that are, and those of a report, with their places among all
 abbrev pub data_fields : List Detail → List (ℕ × Detail)
-data_fields told = filter (λ p. is_of_data p.1) (numbered 0 told)
+data_fields reported = filter (λ p. is_of_data p.1) (numbered 0 reported)
 
 abbrev pub padding : List Detail → List (ℕ × Detail)
-padding told = filter (λ p. not (is_of_data p.1)) (numbered 0 told)
+padding reported = filter (λ p. not (is_of_data p.1)) (numbered 0 reported)
 
 abbrev pub report : Kind → ℕ → List Detail → List (ℕ × Detail)
-report kind id told = filter (λ p. is_of_report kind id p.1) (numbered 0 told)
+report kind id reported = filter (λ p. is_of_report kind id p.1) (numbered 0 reported)
 
 -- ---- the reports
 
 -- a data item with none of its report before it
 abbrev pub is_first : List Detail → ℕ × Detail → Bool
-is_first told p = not (list_any (is_of_report p.1.kind p.1.id) (take p.0 told))
+is_first reported p = not (list_any (is_of_report p.1.kind p.1.id) (take p.0 reported))
 
 -- of the report of a data item: its bits are those of all its data items, as far as 64 bits count
 abbrev pub facts : List ItemValue → ℕ × Detail → ReportFacts
@@ -56,11 +56,11 @@ is_inside of number place = unwrap_or (option_map (λ n. n == number) (of place)
 
 -- one of these data items is of the report and belongs to the application
 abbrev pub has_inside : (ℕ → Option ℕ) → ℕ → Kind → ℕ → List Detail → Bool
-has_inside of number kind id told = list_any (λ p. is_of_report kind id p.1 && is_inside of number p.0) (numbered 0 told)
+has_inside of number kind id reported = list_any (λ p. is_of_report kind id p.1 && is_inside of number p.0) (numbered 0 reported)
 
 -- a data item of the application with none of its report and of the application before it
 abbrev pub is_first_inside : (ℕ → Option ℕ) → ℕ → List Detail → ℕ × Detail → Bool
-is_first_inside of number told p = is_inside of number p.0 && not (has_inside of number p.1.kind p.1.id (take p.0 told))
+is_first_inside of number reported p = is_inside of number p.0 && not (has_inside of number p.1.kind p.1.id (take p.0 reported))
 
 -- kind and ID
 abbrev pub report_named : ℕ × Detail → Kind × ℕ

@@ -1,4 +1,4 @@
--- Believed: the digits of a unit.
+-- Trusted: the digits of a unit.
 use Rattle.std.specs.Prelude.{ℕ, ◌/◌, ◌%◌, ◌^◌}
 use Rattle.field_details.specs.declared.unit.Dimension.{Dimension}
 use Rattle.field_details.specs.declared.unit.Dimension.TheVariants.{Length, Mass, Time, Temperature, Current, LuminousIntensity}

@@ -1,20 +1,20 @@
-//! The collections around a data item, by the numbers that are told.
+//! The collections around a data item, by the numbers that are reported.
 
 ghost use Rattle.std.specs.Prelude.{◌≡◌, ◌≤◌, [], ◌∷◌, MatchOption, length, reverse, take, slice_get, option_and_then};
 ghost use Rattle.std.specs.Iterator.{YieldsFirst, item_count};
 ghost use Rattle.field_details.specs.Around.{is_application, less_than, inside_in};
-ghost use Rattle.field_details.specs.ties.Around.{outer_in};
-ghost use Rattle.field_details.specs.ties.Asked.{all_outwards, application_in};
+ghost use Rattle.field_details.specs.representation.Around.{outer_in};
+ghost use Rattle.field_details.specs.representation.Asked.{all_outwards, application_in};
 
 use crate::collection::Collection;
 use crate::detail::Detail;
 use std::marker::Model;
 
 /// The innermost collection around a data item.
-pub(crate) fn inside(told: &[Detail], place: usize) -> Option<usize>
-    ensures { result ≡ inside_in told.now place }
+pub(crate) fn inside(reported: &[Detail], place: usize) -> Option<usize>
+    ensures { result ≡ inside_in reported.now place }
 {
-    match told.get(place) {
+    match reported.get(place) {
         Some(detail) => detail.inside,
         None => None,
     }
@@ -50,10 +50,14 @@ fn is_application(groups: &[Collection], number: usize) -> bool
 }
 
 /// The innermost Application collection around a data item.
-pub(crate) fn application_of(told: &[Detail], groups: &[Collection], place: usize) -> Option<usize>
-    ensures { result ≡ application_in told.now groups.now place }
+pub(crate) fn application_of(
+    reported: &[Detail],
+    groups: &[Collection],
+    place: usize,
+) -> Option<usize>
+    ensures { result ≡ application_in reported.now groups.now place }
 {
-    let mut next = inside(told, place);
+    let mut next = inside(reported, place);
     while let Some(number) = next {
         if is_application(groups, number) {
             return Some(number);
@@ -106,7 +110,7 @@ pub struct Around<'a> {
 
 impl<'a> Model for Around<'a> {
     ghost use Rattle.std.specs.Prelude.{ℕ, List, ◌≤◌, length, reverse, take};
-    ghost use Rattle.field_details.specs.ties.Asked.{all_outwards};
+    ghost use Rattle.field_details.specs.representation.Asked.{all_outwards};
 
     ghost Value = { List ℕ };
 
@@ -117,10 +121,10 @@ impl<'a> Model for Around<'a> {
 
 impl<'a> Around<'a> {
     /// Those around a data item.
-    pub(crate) fn new(told: &[Detail], groups: &'a [Collection], place: usize) -> Around<'a>
-        ensures { result ≡ reverse (all_outwards groups.now (inside_in told.now place)) }
+    pub(crate) fn new(reported: &[Detail], groups: &'a [Collection], place: usize) -> Around<'a>
+        ensures { result ≡ reverse (all_outwards groups.now (inside_in reported.now place)) }
     {
-        let inner = inside(told, place);
+        let inner = inside(reported, place);
         Around {
             groups,
             inner,

@@ -4,9 +4,9 @@ ghost use Rattle.std.specs.Prelude.{◌≡◌, ◌≢◌, ◌-◌, ◌%◌, ◌�
 ghost use Rattle.descriptor_parse.specs.Items.{ItemValue};
 ghost use Rattle.descriptor_parse.specs.Tags.{tag_of};
 ghost use Rattle.descriptor_parse.specs.declared.tag.Tag.{Tag};
-ghost use Rattle.descriptor_parse.specs.ties.StackStands.{StackStands};
+ghost use Rattle.descriptor_parse.specs.representation.StackRefines.{StackRefines};
 ghost use Rattle.field_details.specs.Extents.{signed_digit, power_of};
-ghost use Rattle.field_details.specs.ties.Stands.{greatest, extents_of, extents_by};
+ghost use Rattle.field_details.specs.representation.Relation.{greatest, extents_of, extents_by};
 
 use crate::unit::signed_digit;
 use descriptor_parse::GlobalTag;
@@ -83,7 +83,7 @@ fn power(bytes: &[u8]) -> i64
 /// Takes a Global item that the parser of fields reads.
 pub(crate) fn take_global(extents: &mut Stack<Extents>, tag: GlobalTag) -> Result<(), AllocError>
     ensures { OnOk result ((before : List ItemValue) (item : ItemValue) → tag_of item.prefix ≡ Tag.Global tag
-        → StackStands extents_of before extents.old → StackStands extents_of (item ∷ before) extents.new) }
+        → StackRefines extents_of before extents.old → StackRefines extents_of (item ∷ before) extents.new) }
 {
     match tag {
         GlobalTag::Push => extents.save()?,
@@ -97,7 +97,7 @@ pub(crate) fn take_global(extents: &mut Stack<Extents>, tag: GlobalTag) -> Resul
 pub(crate) fn take_skipped(extents: &mut Stack<Extents>, prefix: u8, bytes: &[u8])
     requires { prefix ≢ 254 → length bytes.now ≤ 4 }
     ensures { (before : List ItemValue) (item : ItemValue) → tag_of item.prefix ≡ Tag.Skipped → item.prefix ≡ prefix
-        → item.bytes ≡ bytes.now → StackStands extents_of before extents.old → StackStands extents_of (item ∷ before) extents.new }
+        → item.bytes ≡ bytes.now → StackRefines extents_of before extents.old → StackRefines extents_of (item ∷ before) extents.new }
 {
     extents.now.set(prefix, bytes);
 }

@@ -4,20 +4,20 @@
 //! item, the logical and the physical extents, the unit and its power of ten, and the collections around it. Who asks for the
 //! fields alone pays nothing for it.
 //!
-//! The promise is that each of these is exactly what the items before the data item say, by a look back over them.
+//! The guarantee is that each of these is exactly what the items before the data item say, as a function of the history.
 #![tactic(auto)]
 
 mod applications;
 mod around;
 pub mod collection;
 pub mod detail;
+mod details;
 mod extents;
-pub mod laws;
 mod naming;
 mod placed;
 mod report;
 mod text;
-mod told;
+pub mod theorems;
 pub mod unit;
 mod walk;
 
@@ -25,9 +25,9 @@ pub use applications::Applications;
 pub use around::Around;
 pub use collection::Collection;
 pub use detail::Detail;
+pub use details::Details;
 pub use naming::{NamedRanges, Naming, namings};
 pub use placed::{Placed, PlacedFields};
 pub use report::{ReportFacts, Reports, ReportsOf};
 pub use text::parse_details;
-pub use told::Details;
 pub use unit::Dimension;

@@ -9,7 +9,7 @@ ghost use Rattle.descriptor_parse.specs.Tags.{tag, is_main};
 ghost use Rattle.descriptor_parse.specs.Faults.{all_items};
 ghost use Rattle.field_details.specs.declared.naming.Naming.{Naming};
 ghost use Rattle.field_details.specs.Names.{index_prefix, minimum_prefix, maximum_prefix, made, names_at};
-ghost use Rattle.field_details.specs.ties.Asked.{waits, names_left};
+ghost use Rattle.field_details.specs.representation.Asked.{waits, names_left};
 
 use descriptor_parse::number::unsigned;
 use descriptor_parse::{Item, Items, Tag};
@@ -69,7 +69,7 @@ pub struct NamedRanges<'a> {
 
 impl<'a> Model for NamedRanges<'a> {
     ghost use Rattle.std.specs.Prelude.{ℕ, List};
-    ghost use Rattle.field_details.specs.ties.Asked.{names_left, AreShort};
+    ghost use Rattle.field_details.specs.representation.Asked.{names_left, AreShort};
 
     ghost Value = { List (ℕ × ℕ) };
 

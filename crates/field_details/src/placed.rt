@@ -4,7 +4,7 @@ ghost use Rattle.std.specs.Prelude.{◌≡◌, ◌<◌, ◌≤◌, ◌+◌, [], 
 ghost use Rattle.std.specs.List.{list_any};
 ghost use Rattle.std.specs.Iterator.{YieldsFirstBy, item_count};
 ghost use Rattle.field_details.specs.Reports.{is_of_report, is_inside, has_inside};
-ghost use Rattle.field_details.specs.ties.Asked.{application_in, placed_view, left, passes};
+ghost use Rattle.field_details.specs.representation.Asked.{application_in, placed_view, left, passes};
 
 use crate::around::application_of;
 use crate::collection::Collection;
@@ -41,7 +41,7 @@ pub(crate) enum Question {
 #[derive(Debug, Drop)]
 pub struct PlacedFields<'a> {
     question: Question,
-    told: &'a [Detail],
+    reported: &'a [Detail],
     groups: &'a [Collection],
     /// The place of the next one that may be asked for.
     next: usize,
@@ -50,24 +50,24 @@ pub struct PlacedFields<'a> {
 impl<'a> Model for PlacedFields<'a> {
     ghost use Rattle.std.specs.Prelude.{ℕ, List};
     ghost use Rattle.field_details.specs.declared.detail.Detail.{Detail};
-    ghost use Rattle.field_details.specs.ties.Asked.{left, passes};
+    ghost use Rattle.field_details.specs.representation.Asked.{left, passes};
 
     ghost Value = { List (ℕ × Detail) };
 
-    ghost view = { λ s. left (passes s.question s.told.now s.groups.now) s.told.now s.next };
+    ghost view = { λ s. left (passes s.question s.reported.now s.groups.now) s.reported.now s.next };
 }
 
 impl<'a> PlacedFields<'a> {
     pub(crate) fn new(
         question: Question,
-        told: &'a [Detail],
+        reported: &'a [Detail],
         groups: &'a [Collection],
     ) -> PlacedFields<'a>
-        ensures { result ≡ left (passes question told.now groups.now) told.now 0 }
+        ensures { result ≡ left (passes question reported.now groups.now) reported.now 0 }
     {
         PlacedFields {
             question,
-            told,
+            reported,
             groups,
             next: 0,
         }
@@ -77,7 +77,7 @@ impl<'a> PlacedFields<'a> {
     fn take(&mut self) -> Option<Placed<'a>>
         ensures { MatchOption result ((self.old ≡ []) × (self.new ≡ [])) (λ placed. self.old ≡ placed_view placed ∷ self.new) }
     {
-        let found = first_from(self.question, self.told, self.groups, self.next);
+        let found = first_from(self.question, self.reported, self.groups, self.next);
         match found {
             Some(placed) => self.next = placed.place + 1,
             None => {}
@@ -101,16 +101,16 @@ impl<'a> Iterator for PlacedFields<'a> {
 /// The first data item from a place on that is asked for.
 fn first_from<'a>(
     question: Question,
-    told: &'a [Detail],
+    reported: &'a [Detail],
     groups: &[Collection],
     from: usize,
 ) -> Option<Placed<'a>>
-    ensures { MatchOption result (left (passes question told.now groups.now) told.now from ≡ []) (λ p. (p.place < length told.now)
-        × (left (passes question told.now groups.now) told.now from ≡ placed_view p ∷ left (passes question told.now groups.now) told.now (p.place + 1))) }
+    ensures { MatchOption result (left (passes question reported.now groups.now) reported.now from ≡ []) (λ p. (p.place < length reported.now)
+        × (left (passes question reported.now groups.now) reported.now from ≡ placed_view p ∷ left (passes question reported.now groups.now) reported.now (p.place + 1))) }
 {
     let mut place = from;
-    while let Some(detail) = told.get(place) {
-        if passes(question, told, groups, place, detail) {
+    while let Some(detail) = reported.get(place) {
+        if passes(question, reported, groups, place, detail) {
             return Some(Placed { place, detail });
         }
         place += 1;
@@ -121,23 +121,23 @@ fn first_from<'a>(
 /// Whether a data item is asked for.
 fn passes(
     question: Question,
-    told: &[Detail],
+    reported: &[Detail],
     groups: &[Collection],
     place: usize,
     detail: &Detail,
 ) -> bool
-    requires { place < length told.now }
-    ensures { result ≡ passes question told.now groups.now (place, detail.now) }
+    requires { place < length reported.now }
+    ensures { result ≡ passes question reported.now groups.now (place, detail.now) }
 {
     match question {
         Question::Data => !detail.is_constant(),
         Question::Padding => detail.is_constant(),
         Question::Report(kind, id) => is_of_report(detail, kind, id),
-        Question::First => !has_report(told.split_at(place).0, detail.kind, detail.id),
+        Question::First => !has_report(reported.split_at(place).0, detail.kind, detail.id),
         Question::FirstInside(number) => {
-            let front = told.split_at(place).0;
-            is_inside(told, groups, number, place)
-                && !has_inside(front, told, groups, number, detail.kind, detail.id)
+            let front = reported.split_at(place).0;
+            is_inside(reported, groups, number, place)
+                && !has_inside(front, reported, groups, number, detail.kind, detail.id)
         }
     }
 }
@@ -157,10 +157,10 @@ fn has_report(front: &[Detail], kind: Kind, id: u32) -> bool
 }
 
 /// Whether the data item at a place belongs to an application.
-fn is_inside(told: &[Detail], groups: &[Collection], number: usize, place: usize) -> bool
-    ensures { result ≡ is_inside (application_in told.now groups.now) number place }
+fn is_inside(reported: &[Detail], groups: &[Collection], number: usize, place: usize) -> bool
+    ensures { result ≡ is_inside (application_in reported.now groups.now) number place }
 {
-    match application_of(told, groups, place) {
+    match application_of(reported, groups, place) {
         Some(application) => application == number,
         None => false,
     }
@@ -169,17 +169,17 @@ fn is_inside(told: &[Detail], groups: &[Collection], number: usize, place: usize
 /// Whether one of the data items in front is of a report and belongs to an application.
 pub(crate) fn has_inside(
     front: &[Detail],
-    told: &[Detail],
+    reported: &[Detail],
     groups: &[Collection],
     number: usize,
     kind: Kind,
     id: u32,
 ) -> bool
-    ensures { result ≡ has_inside (application_in told.now groups.now) number kind id front.now }
+    ensures { result ≡ has_inside (application_in reported.now groups.now) number kind id front.now }
 {
     let mut place = 0;
     while let Some(detail) = front.get(place) {
-        if is_of_report(detail, kind, id) && is_inside(told, groups, number, place) {
+        if is_of_report(detail, kind, id) && is_inside(reported, groups, number, place) {
             return true;
         }
         place += 1;

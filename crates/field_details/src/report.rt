@@ -3,9 +3,9 @@
 ghost use Rattle.std.specs.Prelude.{◌≡◌, ◌≤◌, ◌<◌, ◌+◌, ◌*◌, [], ◌∷◌, MatchOption, map};
 ghost use Rattle.std.specs.Iterator.{YieldsFirst, item_count};
 ghost use Rattle.descriptor_parse.specs.Tags.{same_kind};
-ghost use Rattle.field_details.specs.ties.Stands.{end_in};
+ghost use Rattle.field_details.specs.representation.Relation.{end_in};
 ghost use Rattle.field_details.specs.Reports.{is_of_report, report_named};
-ghost use Rattle.field_details.specs.ties.Asked.{left, passes, facts_in};
+ghost use Rattle.field_details.specs.representation.Asked.{left, passes, facts_in};
 ghost use Rattle.field_details.specs.declared.placed.Question.{Question};
 
 use crate::collection::Collection;
@@ -42,27 +42,27 @@ impl ReportFacts {
 /// All reports, by their first data items.
 #[derive(Debug, Drop)]
 pub struct Reports<'a> {
-    told: &'a [Detail],
+    reported: &'a [Detail],
     firsts: PlacedFields<'a>,
 }
 
 impl<'a> Model for Reports<'a> {
     ghost use Rattle.std.specs.Prelude.{List, map};
     ghost use Rattle.field_details.specs.declared.report.ReportFacts.{ReportFacts};
-    ghost use Rattle.field_details.specs.ties.Asked.{facts_in};
+    ghost use Rattle.field_details.specs.representation.Asked.{facts_in};
 
     ghost Value = { List ReportFacts };
 
-    ghost view = { λ s. map (facts_in s.told.now) s.firsts };
+    ghost view = { λ s. map (facts_in s.reported.now) s.firsts };
 }
 
 impl<'a> Reports<'a> {
-    pub(crate) fn new(told: &'a [Detail], groups: &'a [Collection]) -> Reports<'a>
-        ensures { result ≡ map (facts_in told.now) (left (passes Question.First told.now groups.now) told.now 0) }
+    pub(crate) fn new(reported: &'a [Detail], groups: &'a [Collection]) -> Reports<'a>
+        ensures { result ≡ map (facts_in reported.now) (left (passes Question.First reported.now groups.now) reported.now 0) }
     {
         Reports {
-            told,
-            firsts: PlacedFields::new(Question::First, told, groups),
+            reported,
+            firsts: PlacedFields::new(Question::First, reported, groups),
         }
     }
 
@@ -74,7 +74,7 @@ impl<'a> Reports<'a> {
             Some(first) => Some(ReportFacts {
                 kind: first.detail.kind,
                 id: first.detail.id,
-                bits: end_of_report(self.told, first.detail.kind, first.detail.id),
+                bits: end_of_report(self.reported, first.detail.kind, first.detail.id),
             }),
             None => None,
         }
@@ -111,14 +111,14 @@ impl<'a> Model for ReportsOf<'a> {
 
 impl<'a> ReportsOf<'a> {
     pub(crate) fn new(
-        told: &'a [Detail],
+        reported: &'a [Detail],
         groups: &'a [Collection],
         application: usize,
     ) -> ReportsOf<'a>
-        ensures { result ≡ map report_named (left (passes (Question.FirstInside application) told.now groups.now) told.now 0) }
+        ensures { result ≡ map report_named (left (passes (Question.FirstInside application) reported.now groups.now) reported.now 0) }
     {
         ReportsOf {
-            firsts: PlacedFields::new(Question::FirstInside(application), told, groups),
+            firsts: PlacedFields::new(Question::FirstInside(application), reported, groups),
         }
     }
 
@@ -146,10 +146,10 @@ impl<'a> Iterator for ReportsOf<'a> {
 }
 
 /// The bit after the last of these data items that is of a report, 0 if none is.
-pub(crate) fn end_of_report(told: &[Detail], kind: Kind, id: u32) -> u64
-    ensures { result ≡ end_in kind id told.now }
+pub(crate) fn end_of_report(reported: &[Detail], kind: Kind, id: u32) -> u64
+    ensures { result ≡ end_in kind id reported.now }
 {
-    let mut rest = told;
+    let mut rest = reported;
     // Mostly it is the last one of all.
     while let Some((last, front)) = rest.split_last() {
         if is_of_report(last, kind, id) {

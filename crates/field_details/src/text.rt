@@ -7,7 +7,7 @@ ghost use Rattle.descriptor_parse.specs.Faults.{IsFaultless, all_items};
 ghost use Rattle.field_details.specs.Collections.{collections};
 ghost use Rattle.field_details.specs.Details.{details};
 
-use crate::told::Details;
+use crate::details::Details;
 use crate::walk::Walk;
 use descriptor_parse::Descriptor;
 use descriptor_parse::beside::{Refusal, parse_beside};
@@ -24,5 +24,5 @@ pub fn parse_details(alloc: Global, text: &[u8]) -> Result<(Descriptor, Details)
 {
     let mut walk = Walk::new(alloc);
     let descriptor = parse_beside(alloc, text, &mut walk)?;
-    Ok((descriptor, walk.into_told()))
+    Ok((descriptor, walk.into_details()))
 }

@@ -7,17 +7,17 @@ ghost use Rattle.descriptor_parse.specs.Tags.{tag_of};
 ghost use Rattle.descriptor_parse.specs.Globals.{unsigned};
 ghost use Rattle.descriptor_parse.specs.declared.tag.Tag.{Tag};
 ghost use Rattle.descriptor_parse.specs.declared.tag.MainTag.{MainTag};
-ghost use Rattle.descriptor_parse.specs.ties.ReportsStand.{fills};
-ghost use Rattle.descriptor_parse.specs.ties.StateStands.{StateStands};
-ghost use Rattle.descriptor_parse.specs.ties.Written.{usage_on};
+ghost use Rattle.descriptor_parse.specs.representation.ReportsRefine.{fills};
+ghost use Rattle.descriptor_parse.specs.representation.StateRefines.{StateRefines};
+ghost use Rattle.descriptor_parse.specs.representation.Written.{usage_on};
 ghost use Rattle.field_details.specs.Collections.{innermost, declared_collection};
 ghost use Rattle.field_details.specs.Details.{declared_detail};
-ghost use Rattle.field_details.specs.ties.Stands.{WalkStands, detail_by};
+ghost use Rattle.field_details.specs.representation.Relation.{WalkRefines, detail_by};
 
 use crate::collection::Collection;
 use crate::detail::Detail;
+use crate::details::Details;
 use crate::extents::{Extents, take_global, take_skipped};
-use crate::told::Details;
 use descriptor_parse::beside::Beside;
 use descriptor_parse::globals::Globals;
 use descriptor_parse::number::unsigned;
@@ -35,32 +35,32 @@ pub(crate) struct Walk {
     pub(crate) usage: Option<Usage>,
     /// The numbers of the collections that are open, outermost first.
     pub(crate) opened: Vec<usize>,
-    pub(crate) told: Details,
+    pub(crate) reported: Details,
 }
 
 impl Walk {
     pub(crate) fn new(alloc: Global) -> Walk
-        ensures { WalkStands [] result }
+        ensures { WalkRefines [] result }
     {
         Walk {
             extents: Stack::new(alloc, Extents::NONE),
             usage: None,
             opened: Vec::new(alloc),
-            told: Details::new(alloc),
+            reported: Details::new(alloc),
         }
     }
 
     /// What was declared.
-    pub(crate) fn into_told(self) -> Details
-        ensures { result ≡ self.told }
+    pub(crate) fn into_details(self) -> Details
+        ensures { result ≡ self.reported }
     {
         let Walk {
-            told,
+            reported,
             extents: _,
             usage: _,
             opened: _,
         } = self;
-        told
+        reported
     }
 
     /// Takes a Local item.
@@ -68,7 +68,7 @@ impl Walk {
         requires few { length bytes.now ≤ 4 }
         requires not_three { length bytes.now ≢ 3 }
         ensures { (before : List ItemValue) (item : ItemValue) → tag_of item.prefix ≡ Tag.Local tag → item.bytes ≡ bytes.now
-            → WalkStands before self.old → WalkStands (item ∷ before) self.new }
+            → WalkRefines before self.old → WalkRefines (item ∷ before) self.new }
     {
         match tag {
             LocalTag::Usage => self.note_usage(read_usage(bytes)),
@@ -94,7 +94,7 @@ impl Walk {
         before: &State,
     ) -> Result<(), AllocError>
         ensures { OnOk result ((items : List ItemValue) (item : ItemValue) → tag_of item.prefix ≡ Tag.Main tag → item.offset ≡ offset
-            → unsigned item.bytes ≡ value → StateStands items before.now → WalkStands items self.old → WalkStands (item ∷ items) self.new) }
+            → unsigned item.bytes ≡ value → StateRefines items before.now → WalkRefines items self.old → WalkRefines (item ∷ items) self.new) }
     {
         match tag {
             MainTag::Data(kind) => self.take_data(kind, offset, value, before),
@@ -115,14 +115,14 @@ impl Walk {
         before: &State,
     ) -> Result<(), AllocError>
         ensures { OnOk result ((items : List ItemValue) (item : ItemValue) → tag_of item.prefix ≡ Tag.Main (MainTag.Data kind) → item.offset ≡ offset
-            → unsigned item.bytes ≡ flags → StateStands items before.now → WalkStands items self.old → WalkStands (item ∷ items) self.new) }
+            → unsigned item.bytes ≡ flags → StateRefines items before.now → WalkRefines items self.old → WalkRefines (item ∷ items) self.new) }
     {
         if !fills(before.globals()) {
             self.usage = None;
             return Ok(());
         }
         let detail = self.detail(kind, offset, flags, before);
-        self.told.fields.push(detail)?;
+        self.reported.fields.push(detail)?;
         self.usage = None;
         Ok(())
     }
@@ -130,7 +130,7 @@ impl Walk {
     /// What a data item declares.
     fn detail(&self, kind: Kind, offset: usize, flags: u32, before: &State) -> Detail
         ensures { (items : List ItemValue) (item : ItemValue) → tag_of item.prefix ≡ Tag.Main (MainTag.Data kind) → item.offset ≡ offset
-            → unsigned item.bytes ≡ flags → StateStands items before.now → WalkStands items self.now → result ≡ declared_detail items item }
+            → unsigned item.bytes ≡ flags → StateRefines items before.now → WalkRefines items self.now → result ≡ declared_detail items item }
     {
         let (globals, extents) = (before.globals(), &self.extents.now);
         detail_by(
@@ -159,11 +159,11 @@ impl Walk {
         before: &State,
     ) -> Result<(), AllocError>
         ensures { OnOk result ((items : List ItemValue) (item : ItemValue) → tag_of item.prefix ≡ Tag.Main MainTag.Collection → item.offset ≡ offset
-            → unsigned item.bytes ≡ kind → StateStands items before.now → WalkStands items self.old → WalkStands (item ∷ items) self.new) }
+            → unsigned item.bytes ≡ kind → StateRefines items before.now → WalkRefines items self.old → WalkRefines (item ∷ items) self.new) }
     {
         let collection = self.collection(offset, kind, before);
-        self.opened.push(self.told.collections.len())?;
-        self.told.collections.push(collection)?;
+        self.opened.push(self.reported.collections.len())?;
+        self.reported.collections.push(collection)?;
         self.usage = None;
         Ok(())
     }
@@ -171,7 +171,7 @@ impl Walk {
     /// What a Collection item declares.
     fn collection(&self, offset: usize, kind: u32, before: &State) -> Collection
         ensures { (items : List ItemValue) (item : ItemValue) → item.offset ≡ offset → unsigned item.bytes ≡ kind
-            → StateStands items before.now → WalkStands items self.now → result ≡ declared_collection items item }
+            → StateRefines items before.now → WalkRefines items self.now → result ≡ declared_collection items item }
     {
         Collection {
             offset,
@@ -184,7 +184,7 @@ impl Walk {
     /// Takes an End Collection item.
     fn close_collection(&mut self)
         ensures { (before : List ItemValue) (item : ItemValue) → tag_of item.prefix ≡ Tag.Main MainTag.EndCollection
-            → WalkStands before self.old → WalkStands (item ∷ before) self.new }
+            → WalkRefines before self.old → WalkRefines (item ∷ before) self.new }
     {
         let _ = self.opened.pop();
         self.usage = None;
@@ -192,7 +192,7 @@ impl Walk {
 }
 
 impl Beside for Walk {
-    ghost stands = { WalkStands };
+    ghost refines = { WalkRefines };
 
     fn take(&mut self, item: &Item<'_>, before: &State) -> Result<(), AllocError> {
         match item.tag() {

@@ -1,4 +1,4 @@
--- Believed: which values the bits of a place hold, and which writes into one are refused (HID 1.11, 5.8 and 6.2.2.7).
+-- Trusted: which values the bits of a place hold, and which writes into one are refused (HID 1.11, 5.8 and 6.2.2.7).
 use Rattle.shapes.specs.Shapes.{Bytes}
 use Rattle.std.specs.Prelude.{◌≡◌, ℕ, ◌+◌, ◌*◌, ◌^◌, ◌<◌, if◌then◌else◌, nat_lt, not, ◌&&◌, Bool, length, ℤ, pos, ◌+ℤ◌, ◌-ℤ◌, int_lt, Option, Some, None}
 use Rattle.std.specs.Int.{bit_at}

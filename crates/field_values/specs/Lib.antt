@@ -4,4 +4,4 @@ pub mod Values
 pub mod Nulls
 pub mod Physical
 pub mod Lists
-pub mod ties
+pub mod representation

@@ -1,4 +1,4 @@
--- Believed: which values of an Array name a usage, and which name no control (HID 1.11, 6.2.2.5 and 6.2.2.8).
+-- Trusted: which values of an Array name a usage, and which name no control (HID 1.11, 6.2.2.5 and 6.2.2.8).
 use Rattle.shapes.specs.Shapes.{UsageList}
 use Rattle.std.specs.Prelude.{◌≡◌, ◌≢◌, ℕ, ◌<◌, ◌%◌, ◌^◌, ◌==◌, true, ◌&&◌, Bool, slice_get, ℤ, Option, Some, None}
 use Rattle.descriptor_parse.specs.declared.field.Field.{Field}

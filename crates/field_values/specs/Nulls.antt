@@ -1,4 +1,4 @@
--- Believed: the values by which a place says that there is none, and which writes of them are refused (HID 1.11, 6.2.2.5).
+-- Trusted: the values by which a place says that there is none, and which writes of them are refused (HID 1.11, 6.2.2.5).
 use Rattle.shapes.specs.Shapes.{Bytes}
 use Rattle.std.specs.Prelude.{ℕ, true, false, if◌then◌else◌, nat_lt, not, ◌&&◌, Bool, ℤ, pos, ◌+ℤ◌, ◌-ℤ◌, Option, Some, None}
 use Rattle.descriptor_parse.specs.declared.field.Field.{Field}

@@ -1,4 +1,4 @@
--- Believed: what a value is in its unit (HID 1.11, 6.2.2.7).
+-- Trusted: what a value is in its unit (HID 1.11, 6.2.2.7).
 use Rattle.std.specs.Prelude.{◌≡◌, ◌^◌, nat_lt, not, ◌&&◌, if◌then◌else◌, Bool, ℤ, pos, ◌+ℤ◌, ◌-ℤ◌, ◌*ℤ◌, ◌<ℤ◌, int_lt, unsigned_abs, Option, Some, None}
 use Rattle.std.specs.Int.{IsGcd}
 use Rattle.field_values.specs.declared.physical.Extents.{Extents}

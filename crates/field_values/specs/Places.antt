@@ -1,4 +1,4 @@
--- Believed: the bits of a report that are none of those from one on.
+-- Trusted: the bits of a report that are none of those from one on.
 use Rattle.std.specs.Prelude.{ℕ, ◌+◌, ◌<◌, ◌≤◌, ◌⊎◌}
 
 abbrev pub IsOutside : ℕ → ℕ → ℕ → Type 0

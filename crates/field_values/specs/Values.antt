@@ -1,4 +1,4 @@
--- Believed: what a place of a field holds beside its number (HID 1.11, 5.10, 6.2.2.5 and 6.2.2.8).
+-- Trusted: what a place of a field holds beside its number (HID 1.11, 5.10, 6.2.2.5 and 6.2.2.8).
 use Rattle.shapes.specs.Shapes.{UsageList}
 use Rattle.std.specs.Prelude.{ℕ, if◌then◌else◌, not, ◌&&◌, Bool, slice_get, ℤ, Option, None}
 use Rattle.std.specs.Int.{int_gap}

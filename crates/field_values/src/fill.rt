@@ -1,7 +1,7 @@
 //! All places of a field.
 
 ghost use Rattle.std.specs.Prelude.{◌≡◌, ℕ, ◌<◌, ◌*◌, length, true};
-ghost use Rattle.host_extract.specs.ties.Fits.{FitsReading};
+ghost use Rattle.host_extract.specs.representation.Fits.{FitsReading};
 ghost use Rattle.host_extract.specs.Found.{value_at};
 ghost use Rattle.host_extract.specs.Numbers.{report_bit};
 ghost use Rattle.field_values.specs.Places.{IsOutside};

@@ -3,7 +3,7 @@
 ghost use Rattle.std.specs.Prelude.{◌≡◌, ◌⊎◌, ◌≤◌, ◌<◌, true, ◌&&◌, MatchOption, MatchBool};
 ghost use Rattle.descriptor_parse.specs.Counts.{AreCounts};
 ghost use Rattle.descriptor_parse.specs.Descriptor.{usage_list};
-ghost use Rattle.host_extract.specs.ties.Fits.{FitsReading};
+ghost use Rattle.host_extract.specs.representation.Fits.{FitsReading};
 ghost use Rattle.field_values.specs.Lists.{is_no_control, is_unused, IsUnlisted, IsFirst};
 
 use crate::place::is_held;

@@ -2,7 +2,7 @@
 
 ghost use Rattle.std.specs.Prelude.{◌≡◌, ◌≤◌, ◌<◌, ◌^◌, ◌-ℤ◌, ◌+ℤ◌, ◌*ℤ◌, ◌<ℤ◌, true, pos, neg_ℤ, unsigned_abs, Some, None, IfOk, IfErr, if◌then◌else◌};
 ghost use Rattle.std.specs.Int.{IsGcd};
-ghost use Rattle.field_values.specs.ties.Limits.{FitsExtents};
+ghost use Rattle.field_values.specs.representation.Limits.{FitsExtents};
 ghost use Rattle.field_values.specs.Physical.{IsPhysical, are_of_items, no_physical};
 
 /// A least and a greatest value.

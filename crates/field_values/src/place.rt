@@ -1,7 +1,7 @@
 //! Values into the places of a field.
 
 ghost use Rattle.std.specs.Prelude.{◌≡◌, ℕ, ◌+◌, ◌*◌, ◌<◌, ◌≤◌, ◌^◌, length, true, not, ◌&&◌, pos, ◌+ℤ◌, ◌-ℤ◌, ◌≤ℤ◌, int_lt, Some, None, IfOk, IfErr};
-ghost use Rattle.host_extract.specs.ties.Fits.{FitsReading};
+ghost use Rattle.host_extract.specs.representation.Fits.{FitsReading};
 ghost use Rattle.host_extract.specs.Found.{value_at};
 ghost use Rattle.host_extract.specs.Numbers.{report_bit, number_at, value_under};
 ghost use Rattle.field_values.specs.Places.{IsOutside};
@@ -10,7 +10,7 @@ ghost use Rattle.field_values.specs.Held.{AreBitsOf, is_held, place_bit, has_bit
 use crate::bits::put_number;
 use descriptor_parse::Field;
 
-/// Why a value is not written into a place. Where several hold, the first in this order is told.
+/// Why a value is not written into a place. Where several hold, the first in this order is reported.
 #[derive(Clone, Copy, Debug, PartialEq, Eq)]
 pub enum PlaceError {
     /// The field has no such place.

@@ -1,4 +1,4 @@
--- Believed: the programs that a healthy flash is sure to make.
+-- Trusted: the programs that a healthy flash is sure to make.
 use Rattle.shapes.specs.Shapes.{Bytes}
 use Rattle.std.specs.Prelude.{◌≡◌, ℕ, ◌+◌, ◌<◌, length, slice_index, replicate}
 use Rattle.flash_model.specs.declared.TheConstants.{SLOT_BYTES}

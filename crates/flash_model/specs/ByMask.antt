@@ -1,4 +1,4 @@
--- Believed: what an operation leaves that is torn by a mask.
+-- Trusted: what an operation leaves that is torn by a mask.
 use Rattle.shapes.specs.Shapes.{Bytes}
 use Rattle.std.specs.Prelude.{◌≡◌, ℕ, ◌+◌, ◌*◌, ◌%◌, ◌<◌, ◌≤◌, ◌==◌, if◌then◌else◌, length, slice_index, bit_and, bit_or}
 use Rattle.std.specs.Int.{bit_not, w8}

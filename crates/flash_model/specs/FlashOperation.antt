@@ -1,4 +1,4 @@
--- Believed: an operation of a flash, by what it asks for.
+-- Trusted: an operation of a flash, by what it asks for.
 use Rattle.shapes.specs.Shapes.{Bytes}
 use Rattle.std.specs.Prelude.{ℕ}
 

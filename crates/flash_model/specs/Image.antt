@@ -1,4 +1,4 @@
--- Believed: the bytes of a flash by pages and slots.
+-- Trusted: the bytes of a flash by pages and slots.
 use Rattle.shapes.specs.Shapes.{Bytes}
 use Rattle.std.specs.Prelude.{◌≡◌, ℕ, ◌+◌, ◌*◌, ◌/◌, ◌<◌, ◌≤◌, length, take, drop, slice_index}
 use Rattle.flash_model.specs.declared.TheConstants.{PAGE_BYTES, SLOT_BYTES}

@@ -1,4 +1,4 @@
--- Believed: what one operation makes of a simulated flash, by the mask that it is torn by, if one is armed.
+-- Trusted: what one operation makes of a simulated flash, by the mask that it is torn by, if one is armed.
 use Rattle.shapes.specs.Shapes.{Bytes}
 use Rattle.std.specs.Prelude.{◌≡◌, ℕ, ◌+◌, ◌%◌, ◌^◌, is_some, if◌then◌else◌, Option, Some, None}
 use Rattle.flash_model.specs.FlashOperation.{FlashOperation, programs, erases}

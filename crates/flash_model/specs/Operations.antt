@@ -1,4 +1,4 @@
--- Believed: what a program or an erase does to a flash, whole or torn.
+-- Trusted: what a program or an erase does to a flash, whole or torn.
 use Rattle.shapes.specs.Shapes.{Bytes}
 use Rattle.std.specs.Prelude.{◌≡◌, ℕ, ◌<◌, length, slice_index, bit_and, replicate}
 use Rattle.flash_model.specs.declared.TheConstants.{PAGE_SLOTS, SLOT_BYTES}

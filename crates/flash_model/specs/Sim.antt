@@ -1,4 +1,4 @@
--- Believed: what is known of a simulated flash.
+-- Trusted: what is known of a simulated flash.
 use Rattle.shapes.specs.Shapes.{Bytes}
 use Rattle.std.specs.Prelude.{ℕ, Option, Bool, nat_eq}
 use Rattle.std.specs.Option.{option_eq}

@@ -1,4 +1,4 @@
--- Believed: what a torn operation may leave of some bytes.
+-- Trusted: what a torn operation may leave of some bytes.
 use Rattle.shapes.specs.Shapes.{Bytes}
 use Rattle.std.specs.Prelude.{◌≡◌, ℕ, ◌≤◌, length, slice_index, bit_and}
 use Rattle.std.specs.Int.{bit_at}

@@ -5,7 +5,7 @@
 //! `SimFlash` is one in memory.
 //!
 //! A `SimFlash` keeps the bytes, both counts, and the mask that its next operation is torn by. The
-//! promise is what a torn operation can leave: of its own bits some have taken effect and others
+//! guarantee is what a torn operation can leave: of its own bits some have taken effect and others
 //! have not, and nothing else has changed. A driver of a flash implements `NorFlash`;
 //! `page_turnover` and what stands on it write through it, and `world` runs on a `SimFlash`.
 #![tactic(auto)]
@@ -16,9 +16,9 @@ ghost use Rattle.flash_model.specs.Assured.{IsAssured};
 ghost use Rattle.flash_model.specs.FlashOperation.{FlashOperation, programs, erases};
 ghost use Rattle.flash_model.specs.Operations.{Programs, MayProgram, Erases, MayErase};
 
-pub mod laws;
 pub mod masks;
 pub mod sim;
+pub mod theorems;
 
 pub use masks::Mask;
 pub use sim::{FlashError, SimFlash};

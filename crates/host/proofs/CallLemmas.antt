@@ -13,7 +13,7 @@ use Rattle.host.specs.declared.gathering.Gathered.TheVariants.{Part, Text, Nothi
 use Rattle.host.specs.Calls.{HostCall, got_packet}
 use Rattle.host.specs.Faultless.{is_faultless}
 use Rattle.host.specs.Kept.{Fetch, gathering, kept, goes_on, kept_with, is_end, is_kept, text_length}
-use Rattle.host.specs.ties.Stands.{Gathers, GathersSome, Becomes, Keeps}
+use Rattle.host.specs.representation.Relation.{Gathers, GathersSome, Becomes, Keeps}
 use Rattle.host.proofs.Clean.{decided}
 
 -- what a host gathers and what it keeps, after a packet

@@ -1,4 +1,4 @@
--- Believed: what a host was told.
+-- Trusted: what a host was told.
 use Rattle.shapes.specs.Shapes.{Bytes}
 use Rattle.std.specs.Prelude.{Bool}
 

@@ -1,4 +1,4 @@
--- Believed: the report descriptor that a host keeps, by looking back over its calls.
+-- Trusted: the report descriptor that a host keeps, by looking back over its calls.
 use Rattle.shapes.specs.Shapes.{Bytes}
 use Rattle.std.specs.Prelude.{ℕ, ◌+◌, ◌*◌, ◌==◌, if◌then◌else◌, nat_lt, nat_le, Bool, not, ◌&&◌, ◌||◌, List, [], ◌∷◌, ◌++◌, length, slice_index, Option, Some, None}
 use Rattle.host.specs.Calls.{HostCall, was_set_up, got_packet, lost}

@@ -2,4 +2,4 @@ pub mod Calls
 pub mod Faultless
 pub mod Kept
 pub mod Reads
-pub mod ties
+pub mod representation

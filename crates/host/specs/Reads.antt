@@ -1,4 +1,4 @@
--- Believed: what a host reads in an input report.
+-- Trusted: what a host reads in an input report.
 use Rattle.shapes.specs.Shapes.{Bytes}
 use Rattle.std.specs.Prelude.{◌≡◌, ℕ, List, Option, Some, None, IsSome}
 use Rattle.descriptor_parse.specs.Descriptor.{DescriptorValue, Describes}

@@ -29,11 +29,11 @@ impl Host {
     ghost use Rattle.host.specs.Calls.{HostCall, was_set_up, got_packet, lost};
     ghost use Rattle.host.specs.Kept.{gathering};
     ghost use Rattle.host.specs.Reads.{Reads, text_by};
-    ghost use Rattle.host.specs.ties.StandsFor.{StandsFor};
+    ghost use Rattle.host.specs.representation.Refines.{Refines};
 
     /// Makes a host that keeps no descriptor.
     pub fn new(alloc: Global) -> Host
-        ensures { StandsFor [] result }
+        ensures { Refines [] result }
     {
         Host {
             alloc,
@@ -45,7 +45,7 @@ impl Host {
     /// Takes a SETUP packet (USB 2.0, table 9-2): it ends a gathering, and `81 06 00 22 00 00 LL LL` begins one of LLLL
     /// bytes, the low byte first.
     pub fn setup(&mut self, packet: [u8; 8])
-        ensures { (past : List HostCall) → StandsFor past self.old → StandsFor (was_set_up packet ∷ past) self.new }
+        ensures { (past : List HostCall) → Refines past self.old → Refines (was_set_up packet ∷ past) self.new }
     {
         self.gathering = Gathering::begun_by(self.alloc, packet);
     }
@@ -57,8 +57,8 @@ impl Host {
     /// gathering is dropped, and what was kept before stays.
     pub fn packet(&mut self, packet: &[u8]) -> Result<(), AllocError>
         requires { length packet.now ≤ 8 }
-        ensures stands { (past : List HostCall) → StandsFor past self.old → StandsFor (got_packet packet.now (is_ok result) ∷ past) self.new }
-        ensures refused { (past : List HostCall) → StandsFor past self.old → OnErr result (is_some (gathering past) ≡ true) }
+        ensures refines { (past : List HostCall) → Refines past self.old → Refines (got_packet packet.now (is_ok result) ∷ past) self.new }
+        ensures refused { (past : List HostCall) → Refines past self.old → OnErr result (is_some (gathering past) ≡ true) }
     {
         let Some(gathering) = self.gathering.take() else {
             return Ok(());
@@ -73,7 +73,7 @@ impl Host {
 
     /// Drops a gathering: the keyboard was cut off or reset.
     pub fn lose(&mut self)
-        ensures { (past : List HostCall) → StandsFor past self.old → StandsFor (lost ∷ past) self.new }
+        ensures { (past : List HostCall) → Refines past self.old → Refines (lost ∷ past) self.new }
     {
         self.gathering = None;
     }
@@ -83,7 +83,7 @@ impl Host {
     /// The reading is `Unread` without a descriptor, and where [`extract`] refuses the report otherwise than for memory.
     /// In boot protocol the descriptor is parsed anew for each report.
     pub fn read(&self, protocol: Protocol, report: &[u8]) -> Reading
-        ensures { (past : List HostCall) → StandsFor past self.now → Reads (text_by protocol past) report.now result }
+        ensures { (past : List HostCall) → Refines past self.now → Reads (text_by protocol past) report.now result }
     {
         match protocol {
             Protocol::Boot => read_boot(self.alloc, report),

@@ -34,7 +34,7 @@ pub(crate) enum Gathered {
 
 impl Gathering {
     ghost use Rattle.host.specs.Kept.{Fetch, begun_by};
-    ghost use Rattle.host.specs.ties.Stands.{Gathers, GathersSome, Becomes};
+    ghost use Rattle.host.specs.representation.Relation.{Gathers, GathersSome, Becomes};
 
     /// The text that a SETUP packet begins, if it asks for the report descriptor (HID 1.11, 7.1.1).
     pub(crate) fn begun_by(alloc: Global, setup: [u8; 8]) -> Option<Gathering>
@@ -60,7 +60,7 @@ impl Gathering {
             length,
             mut parser,
         } = self;
-        // A fault is told again at the end, and such a text is not kept.
+        // A fault is reported again at the end, and such a text is not kept.
         match parser.feed(packet) {
             Err(error) if is_memory(error) => return Err(AllocError),
             Ok(()) | Err(_) => {}

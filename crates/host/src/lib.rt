@@ -3,14 +3,14 @@
 //! `descriptor_parse::Parser` and `host_extract`.)
 //!
 //! A [`Host`] keeps the text that it gathers, and the descriptor of the last one, of 99 bytes, that it gathered whole
-//! and without a fault. The promise is that it reads each report by that descriptor, and in boot protocol by its own.
+//! and without a fault. The guarantee is that it reads each report by that descriptor, and in boot protocol by its own.
 //! `world` calls it, and a driver of a host can.
 #![tactic(auto)]
 
 mod gatherer;
 mod gathering;
-pub mod laws;
 mod reading;
+pub mod theorems;
 
 pub use gatherer::Host;
 pub use reading::{Reading, UsageList};

@@ -10,7 +10,7 @@ use Rattle.descriptor_parse.specs.Descriptor.{DescriptorValue, usage_list}
 use Rattle.descriptor_parse.specs.Readers.{fields_of, is_of_report}
 use Rattle.descriptor_parse.specs.WellFormed.{FitsField, IsWellFormed}
 use Rattle.host_extract.specs.declared.reading.Found.{Found}
-use Rattle.host_extract.specs.ties.Fits.{FitsReading}
+use Rattle.host_extract.specs.representation.Fits.{FitsReading}
 use Rattle.host_extract.specs.Found.{readings_of, found_in}
 
 -- each field can be read

@@ -1,4 +1,4 @@
--- Believed: how a host reads boot reports.
+-- Trusted: how a host reads boot reports.
 use Rattle.shapes.specs.Shapes.{Bytes}
 use Rattle.std.specs.Prelude.{ℕ, [], ◌∷◌}
 

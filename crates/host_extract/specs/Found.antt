@@ -1,4 +1,4 @@
--- Believed: what a host reads in an input report (HID 1.11, 5.6, 6.2.2.5 and 6.2.2.8).
+-- Trusted: what a host reads in an input report (HID 1.11, 5.6, 6.2.2.5 and 6.2.2.8).
 use Rattle.shapes.specs.Shapes.{Bytes, UsageList}
 use Rattle.std.specs.Prelude.{ℕ, zero, suc, ◌+◌, ◌*◌, ◌%◌, ◌^◌, ◌==◌, if◌then◌else◌, ◌||◌, List, [], ◌∷◌, ◌++◌, drop, flat_map, slice_get, slice_index, ℤ, pos, int_lt, Option, Some, None}
 use Rattle.std.specs.Int.{int_gap}

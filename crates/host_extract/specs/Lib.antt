@@ -3,4 +3,4 @@ pub mod Found
 pub mod Numbers
 pub mod Pressed
 pub mod Refusals
-pub mod ties
+pub mod representation

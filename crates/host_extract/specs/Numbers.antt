@@ -1,4 +1,4 @@
--- Believed: the numbers in the bits of a report (HID 1.11, 5.6 and 5.8).
+-- Trusted: the numbers in the bits of a report (HID 1.11, 5.6 and 5.8).
 use Rattle.shapes.specs.Shapes.{Bytes}
 use Rattle.std.specs.Prelude.{ℕ, zero, suc, ◌+◌, ◌*◌, ◌/◌, ◌%◌, ◌^◌, if◌then◌else◌, nat_lt, not, ◌&&◌, slice_index, ℤ, pos, ◌-ℤ◌, int_lt}
 use Rattle.std.specs.Int.{bit_at}

@@ -1,4 +1,4 @@
--- Believed: what is pressed by the readings of a report.
+-- Trusted: what is pressed by the readings of a report.
 use Rattle.shapes.specs.Shapes.{UsageList}
 use Rattle.std.specs.Prelude.{◌≡◌, ◌≢◌, ℕ, ◌↔◌, List, Contains, pos}
 use Rattle.std.specs.List.Sorted.{IsStrictlyIncreasing}

@@ -6,7 +6,7 @@ ghost use Rattle.host_extract.specs.Refusals.{number_of};
 use std::alloc::AllocError;
 use thiserror::Error;
 
-/// Why a report is not read. Where several hold, the first is told.
+/// Why a report is not read. Where several hold, the first is reported.
 #[derive(Clone, Copy, Debug, PartialEq, Eq, Error)]
 pub enum ExtractError {
     /// The report has no byte.

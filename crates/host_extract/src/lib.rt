@@ -13,18 +13,18 @@
 //!
 //! Each of the two gives one new vector. A reading takes time linear in the report's values.
 //!
-//! Nothing is kept. The promise is that a report is read exactly as its descriptor says, or refused for the first of
+//! Nothing is kept. The guarantee is that a report is read exactly as its descriptor says, or refused for the first of
 //! the reasons that it gives. The crate `host` calls it.
 #![tactic(auto)]
 
 mod boot;
 mod error;
-pub mod laws;
 mod number;
 mod places;
 mod press;
 mod read;
 mod reading;
+pub mod theorems;
 
 pub use boot::BOOT_DESCRIPTOR;
 pub use error::ExtractError;

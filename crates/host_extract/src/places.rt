@@ -4,7 +4,7 @@ ghost use Rattle.std.specs.Prelude.{◌≡◌, ◌<◌, ◌++◌, ◌||◌, if�
 ghost use Rattle.std.specs.Int.{int_gap};
 ghost use Rattle.descriptor_parse.specs.Descriptor.{usage_list};
 ghost use Rattle.host_extract.specs.Found.{named, in_array, readings_of, value_at};
-ghost use Rattle.host_extract.specs.ties.Fits.{FitsReading};
+ghost use Rattle.host_extract.specs.representation.Fits.{FitsReading};
 
 use crate::number::{byte_or_number_at, number_at, value_under};
 use crate::reading::Found;

@@ -23,9 +23,9 @@ use Rattle.world.specs.Kinds.{Step}
 use Rattle.world.specs.History.{flash_after}
 use Rattle.world.proofs.Promising.{promise}
 use Rattle.world.proofs.Timing.{stays_in_time}
-use Rattle.world.specs.Stands.{NoneRefused, LongerHistory, Runs}
-use Rattle.world.specs.ties.Stands.{StandsFor}
-use Rattle.world.specs.ties.Value.{WorldValue}
+use Rattle.world.specs.Relation.{NoneRefused, LongerHistory, Runs}
+use Rattle.world.specs.representation.Relation.{Refines}
+use Rattle.world.specs.representation.Value.{WorldValue}
 use Rattle.keyboard.specs.Bounded.{most_steps}
 use Rattle.kbsim.proofs.WorkLemmas.{working_few}
 use Rattle.kbsim.specs.Outputs.{set_feature, set_report, AllWorking, IsFlashWork, ShowsStatus, IsRepeated, IsRefusedSet, IsTakenSet, LineRuns, Prints, GoesOn, Takes, IsPassed, IsRun, IsBegun}
@@ -86,20 +86,20 @@ step_is s e a f p q r n = rw (← p, ← q, ← r, ← n) refl
 -- a run of one event is that event's step
 pub took_one : (P : SimValue → List Step → Type 0) (old new : WorldValue) (e : Event) (room : ℕ) (before after rest : List Answer) (answer : Answer)
     → Runs standard P old new (e ∷ []) room before after true → before ≡ [] → length after ≡ 1 → after ≡ rest ++ answer ∷ [] → Takes e answer old new
-took_one P old new e room before after rest answer runs none one last start past stands =
-    let g : LongerHistory standard P start past new (e ∷ []) room before after true = runs start past stands in
-    let told : after ≡ map (λ (s : Step). s.answer) (reverse g.steps) = g.answers_are ∙ ap (λ (xs : List Answer). xs ++ map (λ (s : Step). s.answer) (reverse g.steps)) none in
-    let count : length g.steps ≡ 1 = sym (length-reverse g.steps) ∙ sym (length-map (reverse g.steps) (λ (s : Step). s.answer)) ∙ sym (ap length told) ∙ one in
+took_one P old new e room before after rest answer runs none one last start past refines =
+    let g : LongerHistory standard P start past new (e ∷ []) room before after true = runs start past refines in
+    let reported : after ≡ map (λ (s : Step). s.answer) (reverse g.steps) = g.answers_are ∙ ap (λ (xs : List Answer). xs ++ map (λ (s : Step). s.answer) (reverse g.steps)) none in
+    let count : length g.steps ≡ 1 = sym (length-reverse g.steps) ∙ sym (length-map (reverse g.steps) (λ (s : Step). s.answer)) ∙ sym (ap length reported) ∙ one in
     let (s, is) = one_of g.steps count in
     let event_is : s.event ∷ [] ≡ e ∷ [] = rw is at g.events_are in
     let no_more : rest ≡ [] = none_of rest (omega (arith, one, ap length last, length-append rest (answer ∷ []))) in
-    let answer_is : s.answer ∷ [] ≡ answer ∷ [] = sym (rw is at told) ∙ last ∙ ap (λ (xs : List Answer). xs ++ answer ∷ []) no_more in
-    let stood : StandsFor standard start (s ∷ past) new = rw is at g.stands in
+    let answer_is : s.answer ∷ [] ≡ answer ∷ [] = sym (rw is at reported) ∙ last ∙ ap (λ (xs : List Answer). xs ++ answer ∷ []) no_more in
+    let stood : Refines standard start (s ∷ past) new = rw is at g.refines in
     let flash_is : new.flash ≡ s.flash = g.flash_is ∙ ap (λ (xs : List Step). flash_after start (xs ++ past)) is in
     let (none_refused, rest_none) = rw is at g.ends.1 in
     let event_same : s.event ≡ e = cc in
     let answer_same : s.answer ≡ answer = cc in
-    subst (λ (x : Step). StandsFor standard start (x ∷ past) new) (step_is s e answer new.flash event_same answer_same (sym flash_is) none_refused) stood
+    subst (λ (x : Step). Refines standard start (x ∷ past) new) (step_is s e answer new.flash event_same answer_same (sym flash_is) none_refused) stood
 
 -- the same, where all that is known of the answers is that there is one
 pub passed_one : (P : SimValue → List Step → Type 0) (old new : WorldValue) (e : Event) (room : ℕ) (before after : List Answer)
@@ -114,19 +114,19 @@ pub popped_one : (old new : WorldValue) (e : Event) (after rest : List Answer) (
     → IsPassed e after old new → after ≡ rest ++ option_to_list popped → result ≡ ok_or popped alloc_error
     → IfOk result (λ answer. Takes e answer old new)
 popped_one old new e after rest None result passed last is = rw is tt
-popped_one old new e after rest (Some answer) result (told, one, takes) last is =
-    let whole : told ∷ [] ≡ rest ++ answer ∷ [] = sym one ∙ last in
+popped_one old new e after rest (Some answer) result (reported, one, takes) last is =
+    let whole : reported ∷ [] ≡ rest ++ answer ∷ [] = sym one ∙ last in
     let no_more : rest ≡ [] = none_of rest (omega (arith, ap length whole, length-append rest (answer ∷ []))) in
-    let same : told ∷ [] ≡ answer ∷ [] = whole ∙ ap (λ (xs : List Answer). xs ++ answer ∷ []) no_more in
-    let answer_same : told ≡ answer = cc in
+    let same : reported ∷ [] ≡ answer ∷ [] = whole ∙ ap (λ (xs : List Answer). xs ++ answer ∷ []) no_more in
+    let answer_same : reported ≡ answer = cc in
     rw is (subst (λ (a : Answer). Takes e a old new) answer_same takes)
 
 -- a line of one event
 pub one_runs : (e : Event) (answer : Answer) (old new : WorldValue) (P : List Step → Type 0) → Takes e answer old new
     → ((step : Step) → step.event ≡ e → step.answer ≡ answer → P (step ∷ [])) → GoesOn P old new
-one_runs e answer old new P takes holds start past stands =
+one_runs e answer old new P takes holds start past refines =
     let step : Step = record { event = e; answer = answer; flash = new.flash; refused = false } in
-    (step ∷ [], holds step refl refl, (refl, tt), takes start past stands)
+    (step ∷ [], holds step refl refl, (refl, tt), takes start past refines)
 
 pub line_one : (statement : Statement) (action : Action) (e : Event) (answer : Answer) (old new : WorldValue) → statement ≡ One action
     → IsEventOf action e → Takes e answer old new → GoesOn (λ steps. LineRuns statement steps (Answered answer)) old new
@@ -139,20 +139,20 @@ abbrev pub RepeatedSoFar : Event → ℕ → WorldValue → WorldValue → Type 
 RepeatedSoFar e count old new = GoesOn (λ steps. All (λ (step : Step). step.event ≡ e) steps × (length steps + 1 ≡ count)) old new
 
 pub repeated_none : (e : Event) (world : WorldValue) → RepeatedSoFar e 1 world world
-repeated_none e world start past stands = ([], (All-nil (λ (step : Step). step.event ≡ e), refl), tt, stands)
+repeated_none e world start past refines = ([], (All-nil (λ (step : Step). step.event ≡ e), refl), tt, refines)
 
 pub repeated_more : (e taken : Event) (count : ℕ) (old world new : WorldValue) (answer : Answer) → taken ≡ e → RepeatedSoFar e count old world
     → Takes taken answer world new → RepeatedSoFar e (count + 1) old new
-repeated_more e taken count old world new answer same so_far takes start past stands =
-    let (steps, (all, long), none, stood) = so_far start past stands in
+repeated_more e taken count old world new answer same so_far takes start past refines =
+    let (steps, (all, long), none, stood) = so_far start past refines in
     let step : Step = record { event = taken; answer = answer; flash = new.flash; refused = false } in
     (step ∷ steps, (All-cons (λ (s : Step). s.event ≡ e) step steps same all, omega (arith, long)), (refl, none), takes start (steps ++ past) stood)
 
 pub repeated : (e taken : Event) (count total : ℕ) (old world new : WorldValue) (r : Result Answer AllocError) → taken ≡ e → RepeatedSoFar e count old world
     → count ≡ total → IfOk r (λ answer. Takes taken answer world new) → IfOk r (λ answer. GoesOn (λ steps. IsRepeated e total steps answer) old new)
 repeated e taken count total old world new (Err error) same so_far whole takes = tt
-repeated e taken count total old world new (Ok answer) same so_far whole takes = λ start past stands.
-    let (steps, (all, long), none, stood) = so_far start past stands in
+repeated e taken count total old world new (Ok answer) same so_far whole takes = λ start past refines.
+    let (steps, (all, long), none, stood) = so_far start past refines in
     let step : Step = record { event = taken; answer = answer; flash = new.flash; refused = false } in (
       step ∷ steps,
       record { last = step; before = steps; steps_are = refl; last_is = same; equal = all; count_is = omega (arith, long, whole); shows = refl },
@@ -165,19 +165,19 @@ abbrev pub WorkedSoFar : ℕ → WorldValue → WorldValue → Type 0
 WorkedSoFar count old new = GoesOn (λ steps. AllWorking steps × (length steps ≡ count)) old new
 
 pub worked_none : (world : WorldValue) → WorkedSoFar 0 world world
-worked_none world start past stands = ([], (tt, refl), tt, stands)
+worked_none world start past refines = ([], (tt, refl), tt, refines)
 
 pub worked_more : (count : ℕ) (old world new : WorldValue) (answer : Answer) → WorkedSoFar count old world → Takes event.Work answer world new
     → answer ≡ Worked Working → WorkedSoFar (count + 1) old new
-worked_more count old world new answer so_far takes needs start past stands =
-    let (steps, (all, long), none, stood) = so_far start past stands in
+worked_more count old world new answer so_far takes needs start past refines =
+    let (steps, (all, long), none, stood) = so_far start past refines in
     let step : Step = record { event = event.Work; answer = answer; flash = new.flash; refused = false } in
     (step ∷ steps, ((refl, needs, all), omega (arith, long)), (refl, none), takes start (steps ++ past) stood)
 
 pub worked_off : (count : ℕ) (old world new : WorldValue) (answer : Answer) → WorkedSoFar count old world → Takes event.Work answer world new
     → answer ≢ Worked Working → GoesOn IsFlashWork old new
-worked_off count old world new answer so_far takes done start past stands =
-    let (steps, (all, long), none, stood) = so_far start past stands in
+worked_off count old world new answer so_far takes done start past refines =
+    let (steps, (all, long), none, stood) = so_far start past refines in
     let step : Step = record { event = event.Work; answer = answer; flash = new.flash; refused = false } in (
       step ∷ steps,
       record { last = step; before = steps; steps_are = refl; last_is = refl; done = done; needed = all },
@@ -187,8 +187,8 @@ worked_off count old world new answer so_far takes done start past stands =
 
 -- that many steps never all need more
 pub worked_all : (count : ℕ) (old new : WorldValue) → count ≡ most_steps → WorkedSoFar count old new → GoesOn IsFlashWork old new
-worked_all count old new whole so_far start past stands =
-    let (steps, (all, long), none, stood) = so_far start past stands in
+worked_all count old new whole so_far start past refines =
+    let (steps, (all, long), none, stood) = so_far start past refines in
     let few : length steps < 387 = working_few start past steps stood.answered (stays_in_time standard start (steps ++ past) stood.answered) all in
     absurd (omega (arith, few, long, whole))
 
@@ -197,11 +197,11 @@ abbrev pub SetRuns : ℕ → ℕ → ℕ → Answer → WorldValue → WorldValu
 SetRuns layer key code answer old new =
     GoesOn (λ steps. IsRefusedSet layer key code steps answer ⊎ IsTakenSet layer key code steps answer) old new
 
-pub set_refused : (layer key code : ℕ) (old first new : WorldValue) (told answer : Answer) (report : List ℕ) → report ≡ set_report layer key code
-    → Takes (event.Setup set_feature) told old first → Takes (event.OutPacket (record { items = report })) answer first new
+pub set_refused : (layer key code : ℕ) (old first new : WorldValue) (reported answer : Answer) (report : List ℕ) → report ≡ set_report layer key code
+    → Takes (event.Setup set_feature) reported old first → Takes (event.OutPacket (record { items = report })) answer first new
     → answer ≢ Ack → SetRuns layer key code answer old new
-set_refused layer key code old first new told answer report is opens sends refused start past stands =
-    let setup : Step = record { event = event.Setup set_feature; answer = told; flash = first.flash; refused = false } in
+set_refused layer key code old first new reported answer report is opens sends refused start past refines =
+    let setup : Step = record { event = event.Setup set_feature; answer = reported; flash = first.flash; refused = false } in
     let out : Step = record { event = event.OutPacket (record { items = report }); answer = answer; flash = new.flash; refused = false } in (
       out ∷ setup ∷ [],
       inl (record {
@@ -214,18 +214,18 @@ set_refused layer key code old first new told answer report is opens sends refus
         shows = refl;
       }),
       (refl, (refl, tt)),
-      sends start (setup ∷ past) (opens start past stands),
+      sends start (setup ∷ past) (opens start past refines),
     )
 
-pub set_taken : (layer key code : ℕ) (old first second worked new : WorldValue) (told taken status shown : Answer) (report : List ℕ) → report ≡ set_report layer key code
-    → Takes (event.Setup set_feature) told old first → Takes (event.OutPacket (record { items = report })) taken first second
+pub set_taken : (layer key code : ℕ) (old first second worked new : WorldValue) (reported taken status shown : Answer) (report : List ℕ) → report ≡ set_report layer key code
+    → Takes (event.Setup set_feature) reported old first → Takes (event.OutPacket (record { items = report })) taken first second
     → taken ≡ Ack → GoesOn IsFlashWork second worked → Takes event.InPacket status worked new → ShowsStatus status shown
     → SetRuns layer key code shown old new
-set_taken layer key code old first second worked new told taken status shown report is opens sends ack works asks shows start past stands =
-    let setup : Step = record { event = event.Setup set_feature; answer = told; flash = first.flash; refused = false } in
+set_taken layer key code old first second worked new reported taken status shown report is opens sends ack works asks shows start past refines =
+    let setup : Step = record { event = event.Setup set_feature; answer = reported; flash = first.flash; refused = false } in
     let out : Step = record { event = event.OutPacket (record { items = report }); answer = taken; flash = second.flash; refused = false } in
     let last : Step = record { event = event.InPacket; answer = status; flash = new.flash; refused = false } in
-    let (work, done, none, stood) = works start (out ∷ setup ∷ past) (sends start (setup ∷ past) (opens start past stands)) in (
+    let (work, done, none, stood) = works start (out ∷ setup ∷ past) (sends start (setup ∷ past) (opens start past refines)) in (
       last ∷ work ++ out ∷ setup ∷ [],
       inr (record {
         setup = setup;
@@ -241,30 +241,30 @@ set_taken layer key code old first second worked new told taken status shown rep
         shows = shows;
       }),
       (refl, none_refused-append work (out ∷ setup ∷ []) none (refl, (refl, tt))),
-      subst (λ (xs : List Step). StandsFor standard start (last ∷ xs) new) (sym (append_assoc work (out ∷ setup ∷ []) past)) (asks start (work ++ out ∷ setup ∷ past) stood),
+      subst (λ (xs : List Step). Refines standard start (last ∷ xs) new) (sym (append_assoc work (out ∷ setup ∷ []) past)) (asks start (work ++ out ∷ setup ∷ past) stood),
     )
 
 -- the lines so far, on a device that started on this flash, and what was printed of them
 pub record RunSoFar (start : SimValue) (lines : List Line) (world : WorldValue) (first now : Option (List ℕ)) : Type 0 where
   pub steps : List Step
   pub text : List ℕ
-  pub stands : StandsFor standard start steps world
+  pub refines : Refines standard start steps world
   pub none_refused : NoneRefused steps
   pub prints : Prints lines steps text
   pub appends : Appends first now text
 
-pub run_none : (start : SimValue) (world : WorldValue) (first : Option (List ℕ)) → StandsFor standard start [] world → RunSoFar start [] world first first
-run_none start world first starts = record { steps = []; text = []; stands = starts; none_refused = tt; prints = (refl, refl); appends = Appends-nil first }
+pub run_none : (start : SimValue) (world : WorldValue) (first : Option (List ℕ)) → Refines standard start [] world → RunSoFar start [] world first first
+run_none start world first starts = record { steps = []; text = []; refines = starts; none_refused = tt; prints = (refl, refl); appends = Appends-nil first }
 
 pub run_more : (start : SimValue) (lines : List Line) (world next : WorldValue) (first now after : Option (List ℕ)) (line : Line) (outcome : Outcome)
     → RunSoFar start lines world first now → GoesOn (λ steps. LineRuns line.statement steps outcome) world next
     → Appends now after (printed_line line.number outcome) → RunSoFar start (lines ++ line ∷ []) next first after
 run_more start lines world next first now after line outcome so_far runs printed =
-    let (steps, line_runs, none, stands) = runs start so_far.steps so_far.stands in
+    let (steps, line_runs, none, refines) = runs start so_far.steps so_far.refines in
     record {
       steps = steps ++ so_far.steps;
       text = so_far.text ++ printed_line line.number outcome;
-      stands = stands;
+      refines = refines;
       none_refused = none_refused-append steps so_far.steps none so_far.none_refused;
       prints = prints_more lines so_far.steps so_far.text line steps outcome so_far.prints line_runs;
       appends = Appends-trans first now after so_far.text (printed_line line.number outcome) so_far.appends printed;
@@ -285,10 +285,10 @@ run_all start lines world first now so_far = (
   so_far.text,
   record {
     steps = so_far.steps;
-    promise = promise standard start so_far.steps so_far.stands.answered;
+    promise = promise standard start so_far.steps so_far.refines.answered;
     none_refused = so_far.none_refused;
     prints = so_far.prints;
-    leaves = so_far.stands.flash;
+    leaves = so_far.refines.flash;
   },
   so_far.appends,
 )
@@ -330,13 +330,13 @@ mapped_err (Ok x) now e P cases same is = cc
 mapped_err (Err d) now e P cases same is = cc
 
 -- and then a fault's line
-pub told_stopped : (start : SimValue) (lines : List Line) (first now after : Option (List ℕ)) (more : List ℕ) → Stopped start lines first now → Appends now after more
+pub reported_stopped : (start : SimValue) (lines : List Line) (first now after : Option (List ℕ)) (more : List ℕ) → Stopped start lines first now → Appends now after more
     → (count : ℕ) × (text : List ℕ) × (left : SimValue) × ((text ≡ []) ⊎ (count < length lines)) × IsRun start (take count lines) text left × Appends first after (text ++ more)
-told_stopped start lines first now after more (count, text, left, fewer, run, appends) told = (count, text, left, fewer, run, Appends-trans first now after text more appends told)
+reported_stopped start lines first now after more (count, text, left, fewer, run, appends) reported = (count, text, left, fewer, run, Appends-trans first now after text more appends reported)
 
-pub error_told : (told was : RunError) → (told ≡ was) ⊎ (told ≡ error.Output) → told ≡ error.Memory → (was ≡ error.Memory) × (told ≢ error.Output)
-error_told told was (inl e) m = (sym e ∙ m, λ o. cc)
-error_told told was (inr e) m = cc
+pub error_reported : (reported was : RunError) → (reported ≡ was) ⊎ (reported ≡ error.Output) → reported ≡ error.Memory → (was ≡ error.Memory) × (reported ≢ error.Output)
+error_reported reported was (inl e) m = (sym e ∙ m, λ o. cc)
+error_reported reported was (inr e) m = cc
 
 -- what was printed when a run stopped, of the script that the reader gave
 pub begun : (start : SimValue) (known : Option (List ℕ)) (items : List ℕ) (said : List Line) (first now : Option (List ℕ)) (more : List ℕ)

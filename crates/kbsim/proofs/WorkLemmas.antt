@@ -9,7 +9,7 @@ use Rattle.keymap_store.specs.Keymap.{SameEntries}
 use Rattle.keyboard.specs.Calls.{Call, Worked as CalledWork, EachCall, keymap, image_after}
 use Rattle.keyboard.specs.Commands.{working}
 use Rattle.keyboard.specs.Bounded.{most_steps, steps_since, IsInTime}
-use Rattle.keyboard.specs.Lawful as keyboard
+use Rattle.keyboard.specs.Conforming as keyboard
 use Rattle.keyboard.proofs.Accepting.{ended_by-working}
 use Rattle.keyboard.proofs.Bounding.{steps_since-more}
 use Rattle.keyboard.proofs.Effects.{accepts-work}
@@ -21,7 +21,7 @@ use Rattle.world.specs.declared.event.Answer.TheVariants.{Worked}
 use Rattle.world.specs.Kinds.{Step, Kind, calls, kind_of}
 use Rattle.world.specs.History.{Session, session, session_with, host_calls, flash_after, EachStep}
 use Rattle.world.specs.Bounded.{StaysInTime}
-use Rattle.world.specs.Lawful.{IsAnswered, Answered}
+use Rattle.world.specs.Conforming.{IsAnswered, Answered}
 use Rattle.world.proofs.Here.{here}
 use Rattle.kbsim.specs.Outputs.{AllWorking}
 
@@ -60,21 +60,21 @@ works_before first past (Some command) image on = (refl, on.outcome)
 -- and the command still works then
 works_after : (first : List ℕ) (past : List Call) (image : List ℕ) → EachCall (keyboard.IsAnswered standard) first past
     → keyboard.IsAnswered standard first past (CalledWork Working image) → IsSome (working standard first (CalledWork Working image ∷ past))
-works_after first past image lawful answered =
+works_after first past image conforming answered =
     let call : Call = CalledWork Working image in
     let (some, kept) = works_before first past (working standard first past) image answered in
     let after : working standard first (call ∷ past) ≡ working standard first past = working_after standard first past call (working standard first past)
-    (after_stays standard first past call (orderly standard first past lawful) (record { keeps = ended_by-working standard image }) (accepts-work past Working image) kept) in
+    (after_stays standard first past call (orderly standard first past conforming) (record { keeps = ended_by-working standard image }) (accepts-work past Working image) kept) in
     rw after some
 
 -- the call of such a step is answered as it has to be
-lawful_call : (start : SimValue) (past : List Step) (step : Step) → IsAnswered standard start past step → step.event ≡ Work → step.answer ≡ Worked Working
+conforming_call : (start : SimValue) (past : List Step) (step : Step) → IsAnswered standard start past step → step.event ≡ Work → step.answer ≡ Worked Working
     → keyboard.IsAnswered standard (session start past).first (session start past).past (CalledWork Working step.flash.image)
-lawful_call start past step answered is_work needs =
+conforming_call start past step answered is_work needs =
     let (work, is, worked, none) =
     subst (λ (e : Event). Answered standard (session start past) (host_calls past) (flash_after start past) e step.answer step.refused step.flash) is_work answered in
     let same : work ≡ Working = cc in
-    subst (λ (w : WorkAnswer). keyboard.IsAnswered standard (session start past).first (session start past).past (CalledWork w step.flash.image)) same worked.lawful
+    subst (λ (w : WorkAnswer). keyboard.IsAnswered standard (session start past).first (session start past).past (CalledWork w step.flash.image)) same worked.conforming
 
 pub working_few : (start : SimValue) (past steps : List Step) → EachStep (IsAnswered standard) start (steps ++ past) → EachStep (StaysInTime standard) start (steps ++ past)
     → AllWorking steps → length steps < most_steps
@@ -84,7 +84,7 @@ working_few start past (step ∷ before) (answered, earlier) (timely, others) (i
     let p : Session = session start past in
     let call : Call = CalledWork Working step.flash.image in
     let some : IsSome (working standard s.first (call ∷ s.past))
-    = works_after s.first s.past step.flash.image (here standard start (before ++ past) earlier).lawful (lawful_call start (before ++ past) step answered is_work needs) in
+    = works_after s.first s.past step.flash.image (here standard start (before ++ past) earlier).conforming (conforming_call start (before ++ past) step answered is_work needs) in
     let in_time : IsInTime standard s.first (call ∷ s.past)
     = subst (λ (k : Kind). let now = session_with k step.flash.image s in IsInTime standard now.first now.past) (kind_by step.event step.answer step.flash.image is_work needs) timely in
     let few : suc (steps_since (call ∷ s.past)) ≤ 387 = in_time some in

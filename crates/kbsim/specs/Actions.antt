@@ -1,4 +1,4 @@
--- Believed: the event of a line.
+-- Trusted: the event of a line.
 use Rattle.std.specs.Prelude.{◌≡◌}
 use Rattle.script.specs.Masks.{WritesMask}
 use Rattle.script.specs.declared.statement.Action.{Action}

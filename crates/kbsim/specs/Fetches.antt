@@ -1,4 +1,4 @@
--- Believed: a whole transfer of the report descriptor (USB 2.0 section 8.5.3).
+-- Trusted: a whole transfer of the report descriptor (USB 2.0 section 8.5.3).
 use Rattle.shapes.specs.Shapes.{Bytes}
 use Rattle.std.specs.Prelude.{◌≡◌, ◌≢◌, ℕ, ◌+◌, ◌*◌, ◌<◌, ◌⊎◌, List, [], ◌∷◌, ◌++◌, length}
 use Rattle.world.specs.declared.event.Event.TheVariants as event

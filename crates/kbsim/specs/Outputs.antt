@@ -1,4 +1,4 @@
--- Believed: what the lines of a script do to the device, and what they print.
+-- Trusted: what the lines of a script do to the device, and what they print.
 use Rattle.shapes.specs.Shapes.{Bytes}
 use Rattle.std.specs.Prelude.{◌≡◌, ◌≢◌, ℕ, ◌*◌, ◌<◌, ◌/◌, ◌%◌, ◌⊎◌, List, [], ◌∷◌, ◌++◌, length, replicate, take, None, false}
 use Rattle.std.specs.Int.NonZero.{non_zero_u16_get}
@@ -15,9 +15,9 @@ use Rattle.keymap_store.specs.declared.store.Work.TheVariants.{Working}
 use Rattle.world.specs.Kinds.{Step}
 use Rattle.world.specs.History.{flash_after}
 use Rattle.world.specs.Promise.{Promise}
-use Rattle.world.specs.Stands.{NoneRefused}
-use Rattle.world.specs.ties.Stands.{StandsFor}
-use Rattle.world.specs.ties.Value.{WorldValue}
+use Rattle.world.specs.Relation.{NoneRefused}
+use Rattle.world.specs.representation.Relation.{Refines}
+use Rattle.world.specs.representation.Value.{WorldValue}
 use Rattle.kbsim.specs.Actions.{IsEventOf}
 use Rattle.kbsim.specs.Fetches.{IsFetched, IsUnfetched}
 use Rattle.kbsim.specs.Prints.{printed_line}
@@ -120,7 +120,7 @@ abbrev pub blank : ℕ → SimValue
 blank pages = holding (replicate (4096 * pages) 255)
 
 -- the lines print this text, and leave this flash: run on a device that started on the flash `start`, they made a history of
--- which the promise holds, and in which the host was refused no memory
+-- which the guarantee holds, and in which the host was refused no memory
 pub record IsRun (start : SimValue) (lines : List Line) (text : Bytes) (after : SimValue) : Type 0 where
   pub steps : List Step
   pub promise : Promise standard start steps
@@ -147,13 +147,13 @@ pub record IsBegun (start : SimValue) (script text : Bytes) : Type 0 where
 -- was refused no memory
 abbrev pub GoesOn : (List Step → Type 0) → WorldValue → WorldValue → Type 0
 GoesOn P old new =
-    (start : SimValue) (past : List Step) → StandsFor standard start past old → (steps : List Step) × P steps × NoneRefused steps × StandsFor standard start (steps ++ past) new
+    (start : SimValue) (past : List Step) → Refines standard start past old → (steps : List Step) × P steps × NoneRefused steps × Refines standard start (steps ++ past) new
 
 -- the world took one event, and the host was refused no memory
 abbrev pub Takes : Event → Answer → WorldValue → WorldValue → Type 0
 Takes event answer old new =
-    (start : SimValue) (past : List Step) → StandsFor standard start past old
-    → StandsFor standard start (record { event = event; answer = answer; flash = new.flash; refused = false } ∷ past) new
+    (start : SimValue) (past : List Step) → Refines standard start past old
+    → Refines standard start (record { event = event; answer = answer; flash = new.flash; refused = false } ∷ past) new
 
 -- the same, and these answers are that event's alone
 abbrev pub IsPassed : Event → List Answer → WorldValue → WorldValue → Type 0

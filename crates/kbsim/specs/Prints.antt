@@ -1,4 +1,4 @@
--- Believed: what is printed of an answer, and of a fault.
+-- Trusted: what is printed of an answer, and of a fault.
 use Rattle.shapes.specs.Shapes.{Bytes, UsageList}
 use Rattle.std.specs.Prelude.{ℕ, ◌/◌, ◌%◌, [], ◌∷◌, ◌++◌, codes}
 use Rattle.std.specs.List.{flat_map}

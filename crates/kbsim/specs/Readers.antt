@@ -1,4 +1,4 @@
--- Believed: why a script is not read, and what comes of reading an image.
+-- Trusted: why a script is not read, and what comes of reading an image.
 use Rattle.shapes.specs.Shapes.{Bytes}
 use Rattle.std.specs.Prelude.{ℕ, Option, IfSome, ⊤}
 use Rattle.text_io.specs.declared.fault.ReadError.{ReadError}

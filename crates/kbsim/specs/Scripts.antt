@@ -1,4 +1,4 @@
--- Believed: why a script is not run to its end.
+-- Trusted: why a script is not run to its end.
 use Rattle.shapes.specs.Shapes.{Bytes}
 use Rattle.std.specs.Prelude.{ℕ, ◌<◌, ◌≤◌, ◌⊎◌, List, length, Option, IfSome, ⊤}
 use Rattle.std.specs.Str.Lines.{lines}

@@ -6,7 +6,7 @@
 //!
 //! [`run_with`] also tells a [`Sink`] of each event and each line.
 //!
-//! Nothing is kept between two runs. The promise is that what is printed is the lines of a run of
+//! Nothing is kept between two runs. The guarantee is that what is printed is the lines of a run of
 //! the world in which each event was answered as it has to be, or, of a script that is refused, its
 //! fault alone. The program `kbsim_cli` calls it, over standard input and output; any reader and
 //! writer do.

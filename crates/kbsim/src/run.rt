@@ -9,7 +9,7 @@ ghost use Rattle.text_io.specs.Printers.{Prints, given, printed, printer_writer}
 ghost use Rattle.text_io.specs.Readers.{longest};
 ghost use Rattle.flash_model.specs.Image.{page_count};
 ghost use Rattle.flash_model.specs.Sim.{SimValue};
-ghost use Rattle.world.specs.ties.Stands.{StandsFor};
+ghost use Rattle.world.specs.representation.Relation.{Refines};
 ghost use Rattle.kbsim.specs.Outputs.{set_report, blank, IsFlashWork, LineRuns, IsRepeated, IsRefusedSet, IsTakenSet, IsRun, IsOutput, IsBegun, GoesOn, Takes, IsPassed};
 ghost use Rattle.kbsim.specs.Prints.{fault_line, printed_line};
 ghost use Rattle.kbsim.specs.Scripts.{IsEarly, IsSound, IsRunFault};
@@ -232,11 +232,11 @@ fn run_each<W: Write, S: Sink>(
     printer: &mut Printer<'_, W>,
     sink: &mut S,
 ) -> Result<(), RunError>
-    ensures printed { OnOk result ((start : SimValue) → StandsFor standard start [] world.old → (text : List ℕ)
+    ensures printed { OnOk result ((start : SimValue) → Refines standard start [] world.old → (text : List ℕ)
         × IsRun start lines.now text world.new.flash × Prints W.contents printer.old printer.new text) }
     ensures same_writer { OnOk result (printer_writer printer.new ≡ printer_writer printer.old) }
     ensures late { IfErr result (λ e. (e ≡ RunError.Memory) ⊎ ((e ≡ RunError.Output) × (lines.now ≢ []))) }
-    ensures stopped { result ≡ Err RunError.Memory → (start : SimValue) → StandsFor standard start [] world.old
+    ensures stopped { result ≡ Err RunError.Memory → (start : SimValue) → Refines standard start [] world.old
         → (count : ℕ) × (text : List ℕ) × (after : SimValue) × (count < length lines.now)
         × IsRun start (take count lines.now) text after × Prints W.contents printer.old printer.new text }
     ensures same_writer_stopped { result ≡ Err RunError.Memory → printer_writer printer.new ≡ printer_writer printer.old }
@@ -277,7 +277,7 @@ fn put<W: Write>(
 
 /// A device that starts on a flash; `Memory` where it finds no room.
 fn world_on(alloc: Global, flash: SimFlash) -> Result<World, RunError>
-    ensures starts { IfOk result (λ world. StandsFor standard flash [] world) }
+    ensures starts { IfOk result (λ world. Refines standard flash [] world) }
     ensures memory { IfErr result (λ e. e ≡ RunError.Memory) }
 {
     World::new(alloc, flash).map_err(|_| RunError::Memory)
@@ -385,9 +385,9 @@ fn set<S: Sink>(
 {
     // A SETUP packet is always acknowledged.
     open(world, SET_FEATURE, answers, spare, sink)?;
-    let told = send(world, command(place, code), answers, spare, sink)?;
-    if !is_ack(&told) {
-        return Ok(told);
+    let reported = send(world, command(place, code), answers, spare, sink)?;
+    if !is_ack(&reported) {
+        return Ok(reported);
     }
     work_off(world, answers, spare, sink)?;
     let status = ask(world, answers, spare, sink)?;

@@ -77,18 +77,18 @@ impl<R: Eprint> Tell for StandardError<'_, R> {
 
 /// Prints the line of a fault. The answer is the fault, or `Output`, of which standard error tells.
 fn put<R: Print + Eprint>(rt: &R, error: RunError) -> RunError {
-    let told = print_fault(error, &mut io::writer(rt));
-    if told == RunError::Output {
+    let reported = print_fault(error, &mut io::writer(rt));
+    if reported == RunError::Output {
         tell_output(rt);
     }
-    told
+    reported
 }
 
 /// The same, and says in a sentence what it is.
 fn put_and_tell<R: Print + Eprint>(rt: &R, error: RunError) -> RunError {
-    let told = put(rt, error);
-    if told != RunError::Output {
-        tell(rt, &told);
+    let reported = put(rt, error);
+    if reported != RunError::Output {
+        tell(rt, &reported);
     }
-    told
+    reported
 }

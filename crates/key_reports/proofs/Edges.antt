@@ -3,20 +3,20 @@ use Rattle.std.proofs.Common.{◌≡◌, ℕ, List, [], ◌∷◌, ◌++◌, map
 use Rattle.debounce.specs.declared.Scan.{Scan}
 use Rattle.debounce.specs.Scans.{set_keys}
 use Rattle.layers.specs.Held.{HeldCall}
-use Rattle.layers.specs.ties.HeldStands.{HeldValue, with_names, HeldStandsFor}
+use Rattle.layers.specs.representation.HeldRelation.{HeldValue, with_names, HeldRefines}
 use Rattle.debounce.specs.declared.debouncer.Edges.{Edges}
-use Rattle.key_reports.specs.ties.Edges.{with_releases, with_presses, with_edges, Takes}
+use Rattle.key_reports.specs.representation.Edges.{with_releases, with_presses, with_edges, Takes}
 use Rattle.key_reports.proofs.Those.{reverse-more}
 
 -- `call` was made for each of these keys, in order
 pub record Called (call : ℕ → HeldCall) (done : List ℕ) (old new : HeldValue) : Type 0 where
-  pub each : (past : List HeldCall) → HeldStandsFor past old → HeldStandsFor (map call (reverse done) ++ past) new
+  pub each : (past : List HeldCall) → HeldRefines past old → HeldRefines (map call (reverse done) ++ past) new
 
 pub called-none : (call : ℕ → HeldCall) (held : HeldValue) → Called call [] held held
 called-none call held = record { each = λ past s. s }
 
 pub called-more : (call : ℕ → HeldCall) (done : List ℕ) (key : ℕ) (old between new : HeldValue) → Called call done old between
-    → ((past : List HeldCall) → HeldStandsFor past between → HeldStandsFor (call key ∷ past) new) → Called call (done ++ key ∷ []) old new
+    → ((past : List HeldCall) → HeldRefines past between → HeldRefines (call key ∷ past) new) → Called call (done ++ key ∷ []) old new
 called-more call done key old between new c step =
     record { each = λ past s. rw (reverse-more done key) (step (map call (reverse done) ++ past) (c.each past s)) }
 
@@ -28,7 +28,7 @@ pub record SoFar (split called : Type 0) : Type 0 where
 
 -- and for each key of the set
 pub called-all : (call : ℕ → HeldCall) (set : Scan) (done rest : List ℕ) (old new : HeldValue) → rest ≡ [] → done ++ rest ≡ set_keys set → Called call done old new
-    → (past : List HeldCall) → HeldStandsFor past old → HeldStandsFor (map call (reverse (set_keys set)) ++ past) new
+    → (past : List HeldCall) → HeldRefines past old → HeldRefines (map call (reverse (set_keys set)) ++ past) new
 called-all call set done rest old new none split c past s =
     let e : done ≡ set_keys set = sym (append-nil done) ∙ (rw none at split) in
     rw (← e) (c.each past s)

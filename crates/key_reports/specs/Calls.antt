@@ -1,4 +1,4 @@
--- Believed: what the keys were asked, and what they answered.
+-- Trusted: what the keys were asked, and what they answered.
 use Rattle.shapes.specs.Shapes.{KeyCodes}
 use Rattle.debounce.specs.declared.Scan.{Scan}
 use Rattle.reports.specs.declared.Protocol.{Protocol}

@@ -1,4 +1,4 @@
--- Believed: the code of a key, said of its latest press.
+-- Trusted: the code of a key, said of its latest press.
 use Rattle.shapes.specs.Shapes.{KeyCodes}
 use Rattle.std.specs.Prelude.{◌≡◌, ℕ, ◌<◌, ◌&&◌, ◌||◌, Bool, true, false, IsTrue, nat_lt, if◌then◌else◌, Option, Some, None, List, [], ◌∷◌, ◌++◌}
 use Rattle.debounce.specs.declared.Scan.{Scan}

@@ -2,4 +2,4 @@ pub mod Calls
 pub mod Past
 pub mod Codes
 pub mod Tables
-pub mod ties
+pub mod representation

@@ -1,4 +1,4 @@
--- Believed: what the calls, newest first, come to: scans, presses and releases, the wanted bytes of the reports, the calls
+-- Trusted: what the calls, newest first, come to: scans, presses and releases, the wanted bytes of the reports, the calls
 -- of the poller, and the answer of a poll.
 use Rattle.shapes.specs.Shapes.{Bytes}
 use Rattle.std.specs.Prelude.{ℕ, zero, suc, Bool, ◌&&◌, not, if◌then◌else◌, Option, List, [], ◌∷◌, ◌++◌, map}

@@ -1,4 +1,4 @@
--- Believed: a keymap by its entries.
+-- Trusted: a keymap by its entries.
 use Rattle.shapes.specs.Shapes.{KeyCodes}
 use Rattle.std.specs.Prelude.{ℕ, map}
 use Rattle.std.specs.List.{range_with_len}

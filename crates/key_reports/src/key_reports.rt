@@ -30,7 +30,7 @@ pub struct KeyReports {
 
 impl Model for KeyReports {
     ghost use Rattle.std.specs.Prelude.{◌≡◌, true};
-    ghost use Rattle.key_reports.specs.ties.Value.{KeysValue};
+    ghost use Rattle.key_reports.specs.representation.Value.{KeysValue};
 
     ghost Value = { KeysValue };
 
@@ -40,12 +40,12 @@ impl Model for KeyReports {
 }
 
 impl KeyReports {
-    ghost use Rattle.key_reports.specs.ties.Stands.{StandsFor, IsFed};
+    ghost use Rattle.key_reports.specs.representation.Relation.{Refines, IsFed};
 
     /// Every key up, and nothing sent. Takes the memory of the reports that wait, and is refused where
     /// there is none; no other call takes memory.
     pub fn new(alloc: Global) -> Result<KeyReports, AllocError>
-        ensures { IfOk result (λ keys. StandsFor [] keys) }
+        ensures { IfOk result (λ keys. Refines [] keys) }
     {
         let poller = Poller::new(alloc)?;
         Ok(KeyReports {
@@ -58,7 +58,7 @@ impl KeyReports {
     /// Leaves what `new` gives: every key up, nothing sent, nothing waiting, and the idle values of the
     /// start.
     pub fn restart(&mut self)
-        ensures { StandsFor [] self.new }
+        ensures { Refines [] self.new }
     {
         self.matrix = Matrix::new();
         self.held.clear();
@@ -70,10 +70,10 @@ impl KeyReports {
     /// released, then those that it presses are pressed, each by rising key and with this keymap. The
     /// reports of the protocol whose bytes this changes wait for a poll.
     pub fn scan<D: Defaults>(&mut self, scan: Scan, keymap: &KeymapOf<D>, protocol: Protocol)
-        ensures stands { (past : List KeyCall) → StandsFor past self.old
-            → StandsFor (Scanned scan keymap.now protocol ∷ past) self.new }
+        ensures refines { (past : List KeyCall) → Refines past self.old
+            → Refines (Scanned scan keymap.now protocol ∷ past) self.new }
         ensures entries { (past : List KeyCall) (entries : ℕ → ℕ → ℕ) → HasEntries entries keymap.now
-            → StandsFor past self.old → StandsFor (Scanned scan (table entries) protocol ∷ past) self.new }
+            → Refines past self.old → Refines (Scanned scan (table entries) protocol ∷ past) self.new }
     {
         let flips = self.matrix.feed(&scan);
         if flips.is_empty() {
@@ -87,7 +87,7 @@ impl KeyReports {
     #[inline(never)]
     fn take<D: Defaults>(&mut self, flips: &KeySet, keymap: &KeymapOf<D>, protocol: Protocol)
         ensures { (past : List KeyCall) (scan : Scan) → IsFed scan flips.now past self.old
-            → StandsFor (Scanned scan keymap.now protocol ∷ past) self.new }
+            → Refines (Scanned scan keymap.now protocol ∷ past) self.new }
     {
         make_for(&mut self.poller, &self.held, protocol);
         let released = self.matrix.released(flips);
@@ -100,9 +100,9 @@ impl KeyReports {
     /// report of the protocol whose bytes are not those last sent, else one whose idle time has passed
     /// since then, or `None`. It then counts as sent.
     pub fn poll(&mut self, protocol: Protocol) -> Option<Report>
-        ensures stands { (past : List KeyCall) → StandsFor past self.old
-            → StandsFor (Asked (polled protocol (option_map (λ r. r.items) result)) ∷ past) self.new }
-        ensures answer { (past : List KeyCall) → StandsFor past self.old
+        ensures refines { (past : List KeyCall) → Refines past self.old
+            → Refines (Asked (polled protocol (option_map (λ r. r.items) result)) ∷ past) self.new }
+        ensures answer { (past : List KeyCall) → Refines past self.old
             → option_map (λ r. r.items) result ≡ answer_after protocol past }
     {
         make_for(&mut self.poller, &self.held, protocol);
@@ -112,9 +112,9 @@ impl KeyReports {
     /// The usages that the codes of the held keys name.
     #[tactic(auto, unfolding(crate::specs::Past::keys_after, crate::specs::Past::consumer_after))]
     pub fn usages(&self) -> Usages
-        ensures keys { (past : List KeyCall) (usage : ℕ) → StandsFor past self.now
+        ensures keys { (past : List KeyCall) (usage : ℕ) → Refines past self.now
             → has_key result usage ≡ keys_after past usage }
-        ensures consumer { (past : List KeyCall) (usage : ℕ) → StandsFor past self.now
+        ensures consumer { (past : List KeyCall) (usage : ℕ) → Refines past self.now
             → has_consumer result usage ≡ consumer_after past usage }
     {
         self.held.usages()
@@ -122,7 +122,7 @@ impl KeyReports {
 
     /// The bytes that the boot report has now. To ask for them sends nothing.
     pub fn boot(&self) -> [u8; 8]
-        ensures { (past : List KeyCall) → StandsFor past self.now → result ≡ wanted_after past Input.Boot }
+        ensures { (past : List KeyCall) → Refines past self.now → result ≡ wanted_after past Input.Boot }
     {
         if self.poller.is_made_for(Protocol::Boot) {
             self.poller.made_boot().eight()
@@ -133,7 +133,7 @@ impl KeyReports {
 
     /// The bytes that the report of ID 1 has now. To ask for them sends nothing.
     pub fn bitmap(&self) -> [u8; 23]
-        ensures { (past : List KeyCall) → StandsFor past self.now → result ≡ wanted_after past Input.One }
+        ensures { (past : List KeyCall) → Refines past self.now → result ≡ wanted_after past Input.One }
     {
         if self.poller.is_made_for(Protocol::Report) {
             self.poller.made_bitmap().twenty_three()
@@ -144,7 +144,7 @@ impl KeyReports {
 
     /// The bytes that the report of ID 2 has now. To ask for them sends nothing.
     pub fn consumer(&self) -> [u8; 9]
-        ensures { (past : List KeyCall) → StandsFor past self.now → result ≡ wanted_after past Input.Two }
+        ensures { (past : List KeyCall) → Refines past self.now → result ≡ wanted_after past Input.Two }
     {
         if self.poller.is_made_for(Protocol::Report) {
             self.poller.made_consumer().nine()
@@ -156,7 +156,7 @@ impl KeyReports {
     /// Sets the idle value of a report, or of all, in units of 4 ms; 0 stands for no repeats (HID 1.11
     /// section 7.2.4). The time that has passed since a report was sent still counts.
     pub fn set_idle(&mut self, id: IdleId, duration: u8)
-        ensures { (past : List KeyCall) → StandsFor past self.old → StandsFor (Asked (idle_set id duration) ∷ past) self.new }
+        ensures { (past : List KeyCall) → Refines past self.old → Refines (Asked (idle_set id duration) ∷ past) self.new }
     {
         self.poller.set_idle(id, duration);
     }
@@ -164,14 +164,14 @@ impl KeyReports {
     /// The idle value of a report, in units of 4 ms; for all reports that of ID 1 (HID 1.11 section
     /// 7.2.3).
     pub fn idle(&self, id: IdleId) -> u8
-        ensures { (past : List KeyCall) → StandsFor past self.now → result ≡ idle_value (idle_input id) (poller_calls past) }
+        ensures { (past : List KeyCall) → Refines past self.now → result ≡ idle_value (idle_input id) (poller_calls past) }
     {
         self.poller.idle(id)
     }
 
     /// Counts nothing as sent, as at the start, and drops what waits; the keys and the idle values stay.
     pub fn forget_sent(&mut self)
-        ensures { (past : List KeyCall) → StandsFor past self.old → StandsFor (Asked forgot ∷ past) self.new }
+        ensures { (past : List KeyCall) → Refines past self.old → Refines (Asked forgot ∷ past) self.new }
     {
         self.poller.forget_sent();
     }
@@ -179,7 +179,7 @@ impl KeyReports {
     /// Counts nothing as sent, drops what waits, and restores the idle values of the start; the keys
     /// stay.
     pub fn bus_reset(&mut self)
-        ensures { (past : List KeyCall) → StandsFor past self.old → StandsFor (Asked was_reset ∷ past) self.new }
+        ensures { (past : List KeyCall) → Refines past self.old → Refines (Asked was_reset ∷ past) self.new }
     {
         self.poller.reset()
     }
@@ -187,7 +187,7 @@ impl KeyReports {
     /// The bytes of the boot report, made of the held keys. Rare.
     #[inline(never)]
     fn boot_anew(&self) -> [u8; 8]
-        ensures { (past : List KeyCall) → StandsFor past self.now → result ≡ wanted_after past Input.Boot }
+        ensures { (past : List KeyCall) → Refines past self.now → result ≡ wanted_after past Input.Boot }
     {
         reports::boot(self.held.lent())
     }
@@ -195,7 +195,7 @@ impl KeyReports {
     /// The bytes of the report of ID 1, made of the held keys. Rare.
     #[inline(never)]
     fn bitmap_anew(&self) -> [u8; 23]
-        ensures { (past : List KeyCall) → StandsFor past self.now → result ≡ wanted_after past Input.One }
+        ensures { (past : List KeyCall) → Refines past self.now → result ≡ wanted_after past Input.One }
     {
         reports::bitmap(self.held.lent())
     }
@@ -203,7 +203,7 @@ impl KeyReports {
     /// The bytes of the report of ID 2, made of the held keys. Rare.
     #[inline(never)]
     fn consumer_anew(&self) -> [u8; 9]
-        ensures { (past : List KeyCall) → StandsFor past self.now → result ≡ wanted_after past Input.Two }
+        ensures { (past : List KeyCall) → Refines past self.now → result ≡ wanted_after past Input.Two }
     {
         reports::consumer(self.held.lent())
     }

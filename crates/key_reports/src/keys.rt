@@ -2,11 +2,11 @@
 
 ghost use Rattle.std.specs.Prelude.{◌≡◌, true, List};
 ghost use Rattle.debounce.specs.declared.debouncer.Edges.{Edges};
-ghost use Rattle.layers.specs.ties.HeldStands.{HeldStandsFor};
+ghost use Rattle.layers.specs.representation.HeldRelation.{HeldRefines};
 ghost use Rattle.reports.specs.Calls.{PollerCall};
-ghost use Rattle.reports.specs.ties.Stands.{StandsFor, IsMade, IsMadeFor};
+ghost use Rattle.reports.specs.representation.Relation.{Refines, IsMade, IsMadeFor};
 ghost use Rattle.key_reports.specs.Calls.{KeyCall};
-ghost use Rattle.key_reports.specs.ties.Edges.{with_releases, with_presses, with_edges, Takes};
+ghost use Rattle.key_reports.specs.representation.Edges.{with_releases, with_presses, with_edges, Takes};
 ghost use Rattle.key_reports.specs.Past.{held_calls, wanted_after};
 
 use debounce::KeySet;
@@ -49,8 +49,8 @@ fn press_all<D: Defaults>(held: &mut Held, keymap: &KeymapOf<D>, pressed: &KeySe
 /// Makes the bytes of the protocol's reports where those of the other protocol were made last.
 pub(crate) fn make_for(poller: &mut Poller, held: &Held, protocol: Protocol)
     requires { held.now.named ≡ true }
-    ensures stands { (calls : List PollerCall) → StandsFor calls poller.old → StandsFor calls poller.new }
-    ensures made { (past : List KeyCall) → HeldStandsFor (held_calls past) held.now
+    ensures refines { (calls : List PollerCall) → Refines calls poller.old → Refines calls poller.new }
+    ensures made { (past : List KeyCall) → HeldRefines (held_calls past) held.now
         → IsMade (wanted_after past) poller.old → IsMadeFor protocol (wanted_after past) poller.new }
 {
     if !poller.is_made_for(protocol) {
@@ -62,8 +62,8 @@ pub(crate) fn make_for(poller: &mut Poller, held: &Held, protocol: Protocol)
 #[inline(never)]
 fn make_anew(poller: &mut Poller, held: &Held, protocol: Protocol)
     requires { held.now.named ≡ true }
-    ensures stands { (calls : List PollerCall) → StandsFor calls poller.old → StandsFor calls poller.new }
-    ensures made { (past : List KeyCall) → HeldStandsFor (held_calls past) held.now
+    ensures refines { (calls : List PollerCall) → Refines calls poller.old → Refines calls poller.new }
+    ensures made { (past : List KeyCall) → HeldRefines (held_calls past) held.now
         → IsMadeFor protocol (wanted_after past) poller.new }
 {
     poller.make(held.lent(), protocol);

@@ -1,4 +1,4 @@
--- At least 127 operations lie between two turnovers.
+-- At least 127 operations lie between two compactions.
 use Rattle.std.proofs.Common.{◌≡◌, ℕ, suc, ◌≤◌, arith, Option, Some, None, List, [], ◌∷◌, ◌++◌, refl, sym, subst}
 use Rattle.layers.specs.Codes.{DefaultCodes}
 use Rattle.layers.specs.declared.command.Command.{Command}
@@ -8,7 +8,7 @@ use Rattle.keymap_store.specs.Turnovers.{TurnsOver, Wears, over, spares, fills, 
 use Rattle.keymap_store.proofs.Between.{between}
 use Rattle.keyboard.specs.Calls.{Call, Scanned, SetUp, Out, In, Polled, Worked, BusReset, image_after, EachCall}
 use Rattle.keyboard.specs.Commands.{working}
-use Rattle.keyboard.specs.Lawful.{IsAnswered, WorkedOn}
+use Rattle.keyboard.specs.Conforming.{IsAnswered, WorkedOn}
 use Rattle.keyboard.specs.Turnovers.{with_step, operations, NoneTurnsOver}
 
 -- operations one after another, no more than so many of which touch the tail of the active page
@@ -45,7 +45,7 @@ module _ (defaults : DefaultCodes) where
   worked start first before (Some command) work new most h n f =
       worn first (image_after start before) new work most (not_idle start before command work new h) n h.wears f
 
-  -- the operations of these calls, after a turnover
+  -- the operations of these calls, after a compaction
   follows_in : (start first : List ℕ) (calls past : List Call) → image_after start past ≡ first → EachCall (IsAnswered defaults) start (calls ++ past) → NoneTurnsOver defaults start calls past
       → FollowsIn first (operations calls) (image_after start (calls ++ past))
   follows_in start first [] past e h n = rw e (record { count = 0; follows = begin; few = omega arith })

@@ -6,7 +6,7 @@ use Rattle.layers.specs.declared.command.Command.{Command}
 use Rattle.keyboard.specs.Calls.{Call, image_after, keymap, EachCall}
 use Rattle.keyboard.specs.Fate.{Fate, works, settled, failed, fate, ended_by}
 use Rattle.keyboard.specs.Commands.{Accepted, accepted, accepted_before, accepted_with, accepts, if_settled, settled_of, standing_of}
-use Rattle.keyboard.specs.Lawful.{IsAnswered}
+use Rattle.keyboard.specs.Conforming.{IsAnswered}
 use Rattle.keyboard.specs.Acknowledged.{confirmation, IsConfirmed, SettledAfter, IsSettled}
 use Rattle.keyboard.specs.Restart.{RestartsLegally}
 use Rattle.keyboard.proofs.Accepting.{ended_by-settled, fate-more}

@@ -10,19 +10,19 @@ use Rattle.keymap_store.specs.Cut.{KeymapAfter, recorded, as_before}
 use Rattle.keymap_store.proofs.Cutting.{cut_leaves}
 use Rattle.keyboard.specs.Calls.{Call, image_after}
 use Rattle.keyboard.specs.Restart.{RestartsLegally}
-use Rattle.keyboard.specs.ties.Value.{KeyboardValue, at_work}
-use Rattle.keyboard.specs.ties.Stands.{StandsFor}
+use Rattle.keyboard.specs.representation.Value.{KeyboardValue, at_work}
+use Rattle.keyboard.specs.representation.Relation.{Refines}
 use Rattle.keyboard.proofs.Restarting.{restarts_with, restarts_without}
 
 module _ (defaults : DefaultCodes) where
-  by_keymap : (start : List ℕ) (past : List Call) (keyboard : KeyboardValue) (operation : Operation) (image : List ℕ) → StandsFor defaults start past keyboard
+  by_keymap : (start : List ℕ) (past : List Call) (keyboard : KeyboardValue) (operation : Operation) (image : List ℕ) → Refines defaults start past keyboard
       → KeymapAfter defaults (image_after start past) keyboard.store.job operation image → RestartsLegally defaults start past image
   by_keymap start past keyboard operation image s (recorded command is e) =
       let working_is : at_work keyboard ≡ Some command = ap working_in is.0 in
       restarts_with defaults start past command image s.answered (sym s.now.works ∙ working_is) e
   by_keymap start past keyboard operation image s (as_before n e) = restarts_without defaults start past image s.answered e
 
-  pub restarts_inside : (start : List ℕ) (past : List Call) (keyboard : KeyboardValue) (operation : Operation) (image : List ℕ) → StandsFor defaults start past keyboard
+  pub restarts_inside : (start : List ℕ) (past : List Call) (keyboard : KeyboardValue) (operation : Operation) (image : List ℕ) → Refines defaults start past keyboard
       → next_operation_of defaults (image_after start past) keyboard.store ≡ Some operation → IsImage image → MayMake (image_after start past) operation image
       → RestartsLegally defaults start past image
   restarts_inside start past keyboard operation image s n i m =

@@ -19,11 +19,11 @@ use Rattle.keymap_store.specs.declared.store.Work.TheVariants.{Idle, Working, Se
 use Rattle.keymap_store.specs.Keymap.{SameEntries}
 use Rattle.keyboard.specs.Calls.{Call, Scanned, SetUp, Out, In, Polled, Worked, BusReset, setup_of, image_after, keymap}
 use Rattle.keyboard.specs.Effects.{report_named}
-use Rattle.keyboard.specs.Feature.{command_in, yes, no, FeatureAnswer}
+use Rattle.keyboard.specs.Feature.{command_of_bytes, yes, no, FeatureAnswer}
 use Rattle.keyboard.specs.Fate.{works, settled, failed, ended_by}
 use Rattle.keyboard.specs.Commands.{accepts, command_in_report, working}
 use Rattle.keyboard.specs.Endpoint.{stage_after}
-use Rattle.keyboard.specs.Lawful.{IsAnswered, OutAnswer, WorkedOn}
+use Rattle.keyboard.specs.Conforming.{IsAnswered, OutAnswer, WorkedOn}
 use Rattle.keyboard.proofs.Accepting.{EndsNone, ended_by-idle, ended_by-working}
 use Rattle.keyboard.proofs.Sent.{sent_as}
 use Rattle.keyboard.proofs.Served.{Serves, serves}
@@ -32,23 +32,23 @@ use Rattle.keyboard.proofs.Served.{Serves, serves}
 pub record Accepts (before : List Call) (packet : List ℕ) (answer : EpAnswer) (command : Command) : Type 0 where
   pub acknowledged : answer ≡ Ack
   pub names : report_named (setup_of before) ≡ Some FeatureData
-  pub reads : command_in (drop 1 packet) ≡ Ok command
+  pub reads : command_of_bytes (drop 1 packet) ≡ Ok command
 
 read_ok : (read : Result Command KeymapError) (command : Command) → result_ok read ≡ Some command → read ≡ Ok command
 read_ok (Ok c) command e = cc
 read_ok (Err error) command e = cc
 
 accepts_named : (report : Option HostReport) (packet : List ℕ) (command : Command) → command_in_report (option_map (sent_as packet) report) ≡ Some command
-    → (report ≡ Some FeatureData) × (command_in (drop 1 packet) ≡ Ok command)
+    → (report ≡ Some FeatureData) × (command_of_bytes (drop 1 packet) ≡ Ok command)
 accepts_named None packet command e = cc
 accepts_named (Some LedsWithId) packet command e = cc
 accepts_named (Some LedsAlone) packet command e = cc
-accepts_named (Some FeatureData) packet command e = (refl, read_ok (command_in (drop 1 packet)) command e)
+accepts_named (Some FeatureData) packet command e = (refl, read_ok (command_of_bytes (drop 1 packet)) command e)
 
 pub accepted_by : (before : List Call) (packet : List ℕ) (answer : EpAnswer) (command : Command) → accepts before (Out packet answer) ≡ Some command → Accepts before packet answer command
 unfolding accepts
 accepted_by before packet Ack command e =
-    let n : (report_named (setup_of before) ≡ Some FeatureData) × (command_in (drop 1 packet) ≡ Ok command) = accepts_named (report_named (setup_of before)) packet command e in
+    let n : (report_named (setup_of before) ≡ Some FeatureData) × (command_of_bytes (drop 1 packet) ≡ Ok command) = accepts_named (report_named (setup_of before)) packet command e in
     record { acknowledged = refl; names = n.0; reads = n.1 }
 accepted_by before packet Nak command e = cc
 accepted_by before packet (Packet p) command e = cc

@@ -26,7 +26,7 @@ use Rattle.keyboard.specs.Bounded.{accepted_image, steps_since}
 use Rattle.keyboard.specs.Calls.{Call, Worked, image_after, keymap}
 use Rattle.keyboard.specs.Commands.{working}
 use Rattle.keyboard.specs.Headers.{ComesBy, stood, is_own, OwnHeaders}
-use Rattle.keyboard.specs.Lawful.{IsAnswered, WorkedOn}
+use Rattle.keyboard.specs.Conforming.{IsAnswered, WorkedOn}
 use Rattle.keyboard.specs.Operated.{LosesNothing, IsRecord, HoldsFirst, IsOfTurn, erases, copies, heads, Works}
 use Rattle.keyboard.proofs.Working.{made}
 

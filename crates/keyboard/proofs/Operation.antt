@@ -17,11 +17,11 @@ use Rattle.page_turnover.specs.declared.log.ActivePage.{ActivePage}
 use Rattle.page_turnover.specs.declared.operation.Operation.{Operation}
 use Rattle.page_turnover.specs.declared.operation.Operation.TheVariants.{Program, Erase}
 use Rattle.page_turnover.specs.Header.{header_word}
-use Rattle.page_turnover.specs.ties.Log.{Describes}
-use Rattle.page_turnover.specs.ties.Made.{CanMake}
+use Rattle.page_turnover.specs.representation.Log.{Describes}
+use Rattle.page_turnover.specs.representation.Made.{CanMake}
 use Rattle.page_turnover.specs.Next.{next_operation, append_operation, turn_operation, is_ready}
 use Rattle.page_turnover.specs.Turn.{copied, copies as copies_in, target_page, next_seq}
-use Rattle.page_turnover.specs.ties.Turn.{UnderWay, Copying, TargetIs, IsGood}
+use Rattle.page_turnover.specs.representation.Turn.{UnderWay, Copying, TargetIs, IsGood}
 use Rattle.page_turnover.specs.Words.{word_of as words_of, words_up_to, IsBlank, HasRoom}
 use Rattle.page_turnover.specs.Value.{LogValue, Target, Unread, Holds, Task, Rest, Append, Wait, Copy, Seal}
 use Rattle.page_turnover.proofs.Blanks.{blank_of, is_blank-blank}
@@ -34,7 +34,7 @@ use Rattle.keymap_store.specs.declared.store.Job.TheVariants.{Resting, Appending
 use Rattle.keymap_store.specs.Left.{left_for}
 use Rattle.keymap_store.specs.Next.{all_copies, next_task, with_task, next_operation_of}
 use Rattle.keymap_store.specs.Store.{working as working_in}
-use Rattle.keymap_store.specs.ties.Store.{Mirrors, IsAppending, IsTurning, OffersBelow}
+use Rattle.keymap_store.specs.representation.Store.{Mirrors, IsAppending, IsTurning, OffersBelow}
 use Rattle.keymap_store.specs.Value.{StoreValue}
 use Rattle.keymap_store.proofs.Keymaps.{entries_of-is_code}
 use Rattle.keymap_store.proofs.NextTasks.{copies_small}
@@ -43,7 +43,7 @@ use Rattle.keyboard.specs.Calls.{keymap}
 use Rattle.keyboard.specs.Operated.{LosesNothing, IsRecord, HoldsFirst, IsOfTurn, erases, copies, heads}
 
 -- the copies below a place stand first among those below a later one
-record StandsIn (xs ys : List ℕ) (k : ℕ) : Type 0 where
+record RefinesIn (xs ys : List ℕ) (k : ℕ) : Type 0 where
   more : k < length ys
   same : get_or ys k 0 ≡ get_or xs k 0
 
@@ -96,7 +96,7 @@ unready : (old : List ℕ) (target : Target) → is_ready old target ≡ false �
 unready old Unread r b = (let e = is_blank-blank old (target_page old) b in cc)
 unready old (Holds n) r b = cc
 
--- a turn is made on the page after the active one, which is another
+-- a compaction is made on the page after the active one, which is another
 erase_same : (p q : ℕ) → Erase p ≡ Erase q → p ≡ q
 erase_same p q e = cc
 
@@ -119,11 +119,11 @@ no_erase : (command : Command) (old : List ℕ) (operation : Operation) → IsRe
 no_erase command old operation r page e = (let f = r.operation_is in cc)
 
 module _ (defaults : DefaultCodes) where
-  stands_below : (entries : ℕ → ℕ → ℕ) (from n k : ℕ) → k < length (copies_below defaults entries from) → StandsIn (copies_below defaults entries from) (copies_below defaults entries (from + n)) k
-  stands_below entries from zero k l = let e : from + 0 ≡ from = omega arith in record { more = rw e l; same = rw e refl }
-  stands_below entries from (suc n) k l =
+  refines_below : (entries : ℕ → ℕ → ℕ) (from n k : ℕ) → k < length (copies_below defaults entries from) → RefinesIn (copies_below defaults entries from) (copies_below defaults entries (from + n)) k
+  refines_below entries from zero k l = let e : from + 0 ≡ from = omega arith in record { more = rw e l; same = rw e refl }
+  refines_below entries from (suc n) k l =
       let e : from + suc n ≡ suc (from + n) = omega arith in
-      let h = stands_below entries from n k l in
+      let h = refines_below entries from n k l in
       elim (cases_eq (entry_at entries (from + n)) (default_at defaults (from + n))) [
         | inl s ↦ record {
           more = rw (e, copies_below-same defaults entries (from + n) s) h.more;
@@ -135,17 +135,17 @@ module _ (defaults : DefaultCodes) where
         }
       ]
 
-  stands_in_all : (entries : ℕ → ℕ → ℕ) (from k : ℕ) → from ≤ places → k < length (copies_below defaults entries from) → StandsIn (copies_below defaults entries from) (all_copies defaults entries) k
-  stands_in_all entries from k l b =
+  refines_in_all : (entries : ℕ → ℕ → ℕ) (from k : ℕ) → from ≤ places → k < length (copies_below defaults entries from) → RefinesIn (copies_below defaults entries from) (all_copies defaults entries) k
+  refines_in_all entries from k l b =
       let e : from + (places - from) ≡ places = omega arith in
-      rw e at (stands_below entries from (places - from) k b)
+      rw e at (refines_below entries from (places - from) k b)
 
   -- the last of them
   last_of : (entries : ℕ → ℕ → ℕ) (from n word : ℕ) (made : List ℕ) → from ≤ places → AreCopies defaults entries from (made ++ word ∷ []) → length made ≡ n
       → (n < length (all_copies defaults entries)) × (word ≡ get_or (all_copies defaults entries) n 0)
   last_of entries from n word made l a c =
       let b : n < length (made ++ word ∷ []) = simp length-append (omega (arith, c)) in
-      let s : StandsIn (copies_below defaults entries from) (all_copies defaults entries) n = stands_in_all entries from n l (rw (← a.listed) b) in
+      let s : RefinesIn (copies_below defaults entries from) (all_copies defaults entries) n = refines_in_all entries from n l (rw (← a.listed) b) in
       let w : get_or (made ++ word ∷ []) n 0 ≡ word = rw (← c) (get_or-append_seam made word [] 0) in
       (s.more, sym w ∙ rw a.listed refl ∙ sym s.same)
 
@@ -156,24 +156,24 @@ module _ (defaults : DefaultCodes) where
 
   holds_so : (entries : ℕ → ℕ → ℕ) (from : ℕ) (image : List ℕ) (target : Target) (more : List ℕ) → from ≤ places → AreCopies defaults entries from (words_up_to image (target_page image) (copied target) ++ more)
       → length (words_up_to image (target_page image) (copied target)) ≡ copied target → HoldsSo entries image target
-  holds_so entries from image target more l a c = record { few = few_of (copied target) (length (all_copies defaults entries)) (λ k b. (stands k b).more); same = λ k b. same_at k b }
+  holds_so entries from image target more l a c = record { few = few_of (copied target) (length (all_copies defaults entries)) (λ k b. (refines k b).more); same = λ k b. same_at k b }
     where
       made : List ℕ
       made = words_up_to image (target_page image) (copied target)
 
-      stands : (k : ℕ) → k < copied target → StandsIn (copies_below defaults entries from) (all_copies defaults entries) k
-      stands k b =
+      refines : (k : ℕ) → k < copied target → RefinesIn (copies_below defaults entries from) (all_copies defaults entries) k
+      refines k b =
           let within : k < length (made ++ more) = simp length-append (omega (arith, c)) in
-          stands_in_all entries from k l (rw (← a.listed) within)
+          refines_in_all entries from k l (rw (← a.listed) within)
 
       same_at : (k : ℕ) → k < copied target → get_or made k 0 ≡ get_or (all_copies defaults entries) k 0
       same_at k b =
           let within : k < length made = rw c b in
           let here : get_or (made ++ more) k 0 ≡ get_or made k 0 = get_or_append_left made more 0 k within in
-          let s : get_or (all_copies defaults entries) k 0 ≡ get_or (copies_below defaults entries from) k 0 = (stands k b).same in
+          let s : get_or (all_copies defaults entries) k 0 ≡ get_or (copies_below defaults entries from) k 0 = (refines k b).same in
           sym here ∙ rw a.listed refl ∙ sym s
 
-  -- a turn that was offered the copy after those that it has made, or its seal after the last
+  -- a compaction that was offered the copy after those that it has made, or its commit header after the last
   abbrev CopiesNext : (ℕ → ℕ → ℕ) → List ℕ → Task → Type 0
   CopiesNext entries image Rest = ⊥
   CopiesNext entries image (Append word) = ⊥
@@ -225,7 +225,7 @@ module _ (defaults : DefaultCodes) where
       let reads : ReadsAs old (target_page old) n = reads_as old (target_page old) n t.full in
       record { header = t.header; copied = λ k l. rw (← h.same k l) (reads.at k l); rest = t.rest }
 
-  -- the operations of a turn
+  -- the operations of a compaction
   copy_is : (ready : Bool) (old : List ℕ) (target : Target) (word : ℕ) (operation : Operation) → is_ready old target ≡ ready → TargetIs old target → CopiesNext (keymap defaults old) old (Copy target word) → Some (turn_operation ready old (copied target + 1) word) ≡ Some operation
       → IsOfTurn defaults old operation
   copy_is true old target word operation r t c e = copies (copied target) c.0 (some_operation _ operation e ∙ rw c.1 refl) (holds_first old target r t c.2)
@@ -249,7 +249,7 @@ module _ (defaults : DefaultCodes) where
   erases_target old operation (copies n l f h) page e = cc
   erases_target old operation (heads f h) page e = cc
 
-  -- a turn that is next
+  -- a compaction that is next
   pub record IsNextOfTurn (old : List ℕ) (operation : Operation) : Type 0 where
     pub is : IsOfTurn defaults old operation
     pub no_room : HasRoom old → ⊥
@@ -277,7 +277,7 @@ module _ (defaults : DefaultCodes) where
       let is : IsRecord command old operation = record_in store.log.active command old store.log operation under.room m.log_is refl next in
       record { is = is; loses = loses_nothing old log operation d (can_make old log operation d next) (no_erase command old operation is) }
 
-  -- by what is left to do: the record alone, or a turn before it
+  -- by what is left to do: the record alone, or a compaction before it
   pub due_last : (job : Job) (image : List ℕ) (store : StoreValue) (command : Command) (operation : Operation) → store.job ≡ job → Mirrors defaults image store → next_operation_of defaults image store ≡ Some operation → working_in job ≡ Some command
       → left_for defaults image store.log job ≡ 1 → IsRecord command image operation
   due_last Resting image store command operation e m n w l = cc

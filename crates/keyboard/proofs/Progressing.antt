@@ -16,7 +16,7 @@ use Rattle.control_ep.specs.declared.answer.EpAnswer.TheVariants.{Ack}
 use Rattle.control_ep.specs.declared.answer.OutStep.TheVariants.{Offer}
 use Rattle.control_ep.specs.declared.answer.Verdict.TheVariants as verdict
 use Rattle.control_ep.specs.Answers.{in_answer, out_step}
-use Rattle.control_ep.specs.Calls.{EpCall, Out as EpOut, Judged, Settle}
+use Rattle.control_ep.specs.Calls.{EpCall, Out as EpOut, Checked, Settle}
 use Rattle.control_ep.specs.Requests.{request_of, named, reports_taken, transfer_of, with_length}
 use Rattle.control_ep.specs.Stage.{stage, outcome_of, stage_with, progress_of, unless_stalled}
 use Rattle.control_ep.specs.Transfers.{Transfer, Takes, FeatureData, Stage, Taking, Status}
@@ -34,10 +34,10 @@ use Rattle.keyboard.specs.Bounded.{steps_since, accepted_image}
 use Rattle.keyboard.specs.Calls.{Call, Scanned, SetUp, Out, In, Polled, Worked, BusReset, image_after, keymap, EachCall}
 use Rattle.keyboard.specs.Commands.{accepts, accepted, accepted_with, working, working_of, if_works, Accepted}
 use Rattle.keyboard.specs.Effects.{report_named}
-use Rattle.keyboard.specs.Endpoint.{ep_calls, stage_after, view_after, verdict_told}
+use Rattle.keyboard.specs.Endpoint.{ep_calls, stage_after, view_after, verdict_reported}
 use Rattle.keyboard.specs.Fate.{changes, changes_by, fate}
-use Rattle.keyboard.specs.Feature.{command_in, yes, no, CommandAnswer, ReadAnswer, FeatureAnswer}
-use Rattle.keyboard.specs.Lawful.{IsAnswered, WorkedOn, OutAnswer}
+use Rattle.keyboard.specs.Feature.{command_of_bytes, yes, no, CommandAnswer, ReadAnswer, FeatureAnswer}
+use Rattle.keyboard.specs.Conforming.{IsAnswered, WorkedOn, OutAnswer}
 use Rattle.keyboard.specs.Operated.{Works}
 use Rattle.keyboard.specs.Progress.{set_feature, IsReady, AreWhole, steps_for, AllWork, EndSettled, IsServed}
 use Rattle.keyboard.proofs.Accepting.{end_with, accepted-more, accepted-same, ended_by-working}
@@ -65,10 +65,10 @@ accepts_work : (past : List Call) (work : WorkAnswer) (image : List ℕ) → acc
 unfolding accepts
 accepts_work past work image = refl
 
-no_operation : (b c d e : ℕ) (command : Command) → command_in (0 ∷ b ∷ c ∷ d ∷ e ∷ []) ≡ Ok command → ⊥
+no_operation : (b c d e : ℕ) (command : Command) → command_of_bytes (0 ∷ b ∷ c ∷ d ∷ e ∷ []) ≡ Ok command → ⊥
 no_operation b c d e command r = cc
 
-operation_is : (a b c d e : ℕ) (command : Command) → command_in (a ∷ b ∷ c ∷ d ∷ e ∷ []) ≡ Ok command → a ≡ 0 → ⊥
+operation_is : (a b c d e : ℕ) (command : Command) → command_of_bytes (a ∷ b ∷ c ∷ d ∷ e ∷ []) ≡ Ok command → a ≡ 0 → ⊥
 operation_is a b c d e command r z = no_operation b c d e command (rw z at r)
 
 not_busy : (w : Option Command) → w ≡ None → is_some w ≡ true → ⊥
@@ -82,7 +82,7 @@ packet a b c d e = 3 ∷ a ∷ b ∷ c ∷ d ∷ e ∷ []
 abbrev begun : List Call → ℕ → ℕ → ℕ → ℕ → ℕ → List Call
 begun past a b c d e = Out (packet a b c d e) Ack ∷ SetUp set_feature ∷ past
 
-pub accepts_data : (past : List Call) (a b c d e : ℕ) (command : Command) → command_in (a ∷ b ∷ c ∷ d ∷ e ∷ []) ≡ Ok command → accepts (SetUp set_feature ∷ past) (Out (packet a b c d e) Ack) ≡ Some command
+pub accepts_data : (past : List Call) (a b c d e : ℕ) (command : Command) → command_of_bytes (a ∷ b ∷ c ∷ d ∷ e ∷ []) ≡ Ok command → accepts (SetUp set_feature ∷ past) (Out (packet a b c d e) Ack) ≡ Some command
 unfolding accepts report_named
 accepts_data past a b c d e command r = ap result_ok r
 
@@ -132,13 +132,13 @@ module _ (defaults : DefaultCodes) where
   to_read image (Ok other) command given r u w a = to_command image other given u w a
   to_read image (Err error) command given r u w a = cc
 
-  to_feature : (image bytes : List ℕ) (busy : Bool) (command : Command) (given : EpAnswer) → (busy ≡ true → ⊥) → (slice_index bytes 0 ≡ 0 → ⊥) → command_in bytes ≡ Ok command → IsUsable image → (IsWorn image → ⊥)
+  to_feature : (image bytes : List ℕ) (busy : Bool) (command : Command) (given : EpAnswer) → (busy ≡ true → ⊥) → (slice_index bytes 0 ≡ 0 → ⊥) → command_of_bytes bytes ≡ Ok command → IsUsable image → (IsWorn image → ⊥)
       → FeatureAnswer defaults image busy bytes given → given ≡ Ack
   to_feature image bytes busy command given f z r u w (yes b answer) = absurd (f b)
   to_feature image bytes busy command given f z r u w (no b (yes zero answer)) = absurd (z zero)
-  to_feature image bytes busy command given f z r u w (no b (no some answer)) = to_read image (command_in bytes) command given r u w answer
+  to_feature image bytes busy command given f z r u w (no b (no some answer)) = to_read image (command_of_bytes bytes) command given r u w answer
 
-  data_taken : (start : List ℕ) (past : List Call) (a b c d e : ℕ) (command : Command) (given : EpAnswer) → IsReady defaults start past → command_in (a ∷ b ∷ c ∷ d ∷ e ∷ []) ≡ Ok command
+  data_taken : (start : List ℕ) (past : List Call) (a b c d e : ℕ) (command : Command) (given : EpAnswer) → IsReady defaults start past → command_of_bytes (a ∷ b ∷ c ∷ d ∷ e ∷ []) ≡ Ok command
       → IsAnswered defaults start (SetUp set_feature ∷ past) (Out (packet a b c d e) given) → given ≡ Ack
   data_taken start past a b c d e command given ready r answered =
       let offered : OutAnswer defaults (out_step (Taking FeatureData) (packet a b c d e)) (image_after start past) (is_some (working defaults start (SetUp set_feature ∷ past))) given =
@@ -151,7 +151,7 @@ module _ (defaults : DefaultCodes) where
   fate_works : (entries : ℕ → ℕ → ℕ) (command : Command) → changes defaults entries command ≡ true → if_works (fate defaults entries command []) command ≡ Some command
   fate_works entries command e = rw e refl
 
-  working_data : (start : List ℕ) (past : List Call) (a b c d e : ℕ) (command : Command) → command_in (a ∷ b ∷ c ∷ d ∷ e ∷ []) ≡ Ok command → changes defaults (keymap defaults (image_after start past)) command ≡ true
+  working_data : (start : List ℕ) (past : List Call) (a b c d e : ℕ) (command : Command) → command_of_bytes (a ∷ b ∷ c ∷ d ∷ e ∷ []) ≡ Ok command → changes defaults (keymap defaults (image_after start past)) command ≡ true
       → working defaults start (begun past a b c d e) ≡ Some command
   unfolding working
   working_data start past a b c d e command r ch =
@@ -213,16 +213,16 @@ module _ (defaults : DefaultCodes) where
 
   goes : (start image : List ℕ) (command : Command) (before steps : List Call) → Goes start image command before [] → AreWhole steps → length steps < length (operations_of defaults image command)
       → EachCall (IsAnswered defaults) start (steps ++ before) → Goes start image command before steps
-  goes start image command before [] g whole few lawful = g
-  goes start image command before (Worked work new ∷ steps) g whole few lawful =
-      let there = goes start image command before steps g whole.1 (omega (arith, few)) lawful.1 in
-      one_more start image command before steps work new ((answers_of start image command before steps work new whole.0 lawful.0 there).goes_on few) there
-  goes start image command before (Scanned scan ∷ steps) g whole few lawful = absurd whole
-  goes start image command before (SetUp bytes ∷ steps) g whole few lawful = absurd whole
-  goes start image command before (Out bytes answer ∷ steps) g whole few lawful = absurd whole
-  goes start image command before (In answer ∷ steps) g whole few lawful = absurd whole
-  goes start image command before (Polled report ∷ steps) g whole few lawful = absurd whole
-  goes start image command before (BusReset ∷ steps) g whole few lawful = absurd whole
+  goes start image command before [] g whole few conforming = g
+  goes start image command before (Worked work new ∷ steps) g whole few conforming =
+      let there = goes start image command before steps g whole.1 (omega (arith, few)) conforming.1 in
+      one_more start image command before steps work new ((answers_of start image command before steps work new whole.0 conforming.0 there).goes_on few) there
+  goes start image command before (Scanned scan ∷ steps) g whole few conforming = absurd whole
+  goes start image command before (SetUp bytes ∷ steps) g whole few conforming = absurd whole
+  goes start image command before (Out bytes answer ∷ steps) g whole few conforming = absurd whole
+  goes start image command before (In answer ∷ steps) g whole few conforming = absurd whole
+  goes start image command before (Polled report ∷ steps) g whole few conforming = absurd whole
+  goes start image command before (BusReset ∷ steps) g whole few conforming = absurd whole
 
   settle_calls : (start : List ℕ) (before : List Call) (work : WorkAnswer) (new : List ℕ) → work ≡ Settled → ep_calls defaults start (Worked work new ∷ before) ≡ Settle ∷ ep_calls defaults start before
   unfolding ep_calls
@@ -238,17 +238,17 @@ module _ (defaults : DefaultCodes) where
 
   ended : (start image : List ℕ) (command : Command) (before steps : List Call) → Goes start image command before [] → AreWhole steps → length steps ≡ length (operations_of defaults image command) → 1 ≤ length (operations_of defaults image command)
       → EachCall (IsAnswered defaults) start (steps ++ before) → Ended start before steps
-  ended start image command before [] g whole all some lawful = absurd (omega (arith, all, some))
-  ended start image command before (Worked work new ∷ steps) g whole all some lawful =
-      let there = goes start image command before steps g whole.1 (omega (arith, all)) lawful.1 in
-      let settled : work ≡ Settled = (answers_of start image command before steps work new whole.0 lawful.0 there).ends all in
+  ended start image command before [] g whole all some conforming = absurd (omega (arith, all, some))
+  ended start image command before (Worked work new ∷ steps) g whole all some conforming =
+      let there = goes start image command before steps g whole.1 (omega (arith, all)) conforming.1 in
+      let settled : work ≡ Settled = (answers_of start image command before steps work new whole.0 conforming.0 there).ends all in
       record { stored = (settled, there.all); endpoint = settle_calls start (steps ++ before) work new settled ∙ ap (λ (l : List EpCall). Settle ∷ l) there.endpoint }
-  ended start image command before (Scanned scan ∷ steps) g whole all some lawful = absurd whole
-  ended start image command before (SetUp bytes ∷ steps) g whole all some lawful = absurd whole
-  ended start image command before (Out bytes answer ∷ steps) g whole all some lawful = absurd whole
-  ended start image command before (In answer ∷ steps) g whole all some lawful = absurd whole
-  ended start image command before (Polled report ∷ steps) g whole all some lawful = absurd whole
-  ended start image command before (BusReset ∷ steps) g whole all some lawful = absurd whole
+  ended start image command before (Scanned scan ∷ steps) g whole all some conforming = absurd whole
+  ended start image command before (SetUp bytes ∷ steps) g whole all some conforming = absurd whole
+  ended start image command before (Out bytes answer ∷ steps) g whole all some conforming = absurd whole
+  ended start image command before (In answer ∷ steps) g whole all some conforming = absurd whole
+  ended start image command before (Polled report ∷ steps) g whole all some conforming = absurd whole
+  ended start image command before (BusReset ∷ steps) g whole all some conforming = absurd whole
 
   -- ---- there is an operation
 
@@ -261,27 +261,27 @@ module _ (defaults : DefaultCodes) where
 
   -- ---- the status stage
 
-  calls_data : (start : List ℕ) (past : List Call) (a b c d e : ℕ) (command : Command) (change : Bool) → command_in (a ∷ b ∷ c ∷ d ∷ e ∷ []) ≡ Ok command → changes defaults (keymap defaults (image_after start past)) command ≡ change
+  calls_data : (start : List ℕ) (past : List Call) (a b c d e : ℕ) (command : Command) (change : Bool) → command_of_bytes (a ∷ b ∷ c ∷ d ∷ e ∷ []) ≡ Ok command → changes defaults (keymap defaults (image_after start past)) command ≡ change
       → ep_calls defaults start (begun past a b c d e)
-      ≡ Judged (if change then verdict.Working else verdict.Done) Ack ∷ EpOut (packet a b c d e) (Offer (a ∷ b ∷ c ∷ d ∷ e ∷ [])) ∷ ep_calls defaults start (SetUp set_feature ∷ past)
+      ≡ Checked (if change then verdict.Working else verdict.Done) Ack ∷ EpOut (packet a b c d e) (Offer (a ∷ b ∷ c ∷ d ∷ e ∷ [])) ∷ ep_calls defaults start (SetUp set_feature ∷ past)
   calls_data start past a b c d e command change r ch =
       let entries : ℕ → ℕ → ℕ = keymap defaults (image_after start past) in
       let before : List EpCall = ep_calls defaults start (SetUp set_feature ∷ past) in
       ep_calls-out defaults start (SetUp set_feature ∷ past) (packet a b c d e) Ack (Offer (a ∷ b ∷ c ∷ d ∷ e ∷ [])) (sym (ap (λ (s : Stage). out_step s (packet a b c d e)) (stage_set start past)))
-      ∙ ap (λ (t : Bool). Judged (verdict_told t Ack) Ack ∷ EpOut (packet a b c d e) (Offer (a ∷ b ∷ c ∷ d ∷ e ∷ [])) ∷ before) (ap (changes_by defaults entries) r ∙ ch)
+      ∙ ap (λ (t : Bool). Checked (verdict_reported t Ack) Ack ∷ EpOut (packet a b c d e) (Offer (a ∷ b ∷ c ∷ d ∷ e ∷ [])) ∷ before) (ap (changes_by defaults entries) r ∙ ch)
 
   stage_stored : (start : List ℕ) (past : List Call) (a b c d e : ℕ)
-      → stage (Settle ∷ Judged verdict.Working Ack ∷ EpOut (packet a b c d e) (Offer (a ∷ b ∷ c ∷ d ∷ e ∷ [])) ∷ ep_calls defaults start (SetUp set_feature ∷ past)) ≡ Status Nothing
+      → stage (Settle ∷ Checked verdict.Working Ack ∷ EpOut (packet a b c d e) (Offer (a ∷ b ∷ c ∷ d ∷ e ∷ [])) ∷ ep_calls defaults start (SetUp set_feature ∷ past)) ≡ Status Nothing
   unfolding ep_calls stage
   stage_stored start past a b c d e =
-      ap (λ (t : Result Transfer Why). unless_stalled None (stage_with (outcome_of t 6) (progress_of (Settle ∷ Judged verdict.Working Ack ∷ EpOut (packet a b c d e) (Offer (a ∷ b ∷ c ∷ d ∷ e ∷ [])) ∷ []))))
+      ap (λ (t : Result Transfer Why). unless_stalled None (stage_with (outcome_of t 6) (progress_of (Settle ∷ Checked verdict.Working Ack ∷ EpOut (packet a b c d e) (Offer (a ∷ b ∷ c ∷ d ∷ e ∷ [])) ∷ []))))
       (begins (view_after defaults start past))
 
   stage_done : (start : List ℕ) (past : List Call) (a b c d e : ℕ)
-      → stage (Judged verdict.Done Ack ∷ EpOut (packet a b c d e) (Offer (a ∷ b ∷ c ∷ d ∷ e ∷ [])) ∷ ep_calls defaults start (SetUp set_feature ∷ past)) ≡ Status Nothing
+      → stage (Checked verdict.Done Ack ∷ EpOut (packet a b c d e) (Offer (a ∷ b ∷ c ∷ d ∷ e ∷ [])) ∷ ep_calls defaults start (SetUp set_feature ∷ past)) ≡ Status Nothing
   unfolding ep_calls stage
   stage_done start past a b c d e =
-      ap (λ (t : Result Transfer Why). unless_stalled None (stage_with (outcome_of t 6) (progress_of (Judged verdict.Done Ack ∷ EpOut (packet a b c d e) (Offer (a ∷ b ∷ c ∷ d ∷ e ∷ [])) ∷ []))))
+      ap (λ (t : Result Transfer Why). unless_stalled None (stage_with (outcome_of t 6) (progress_of (Checked verdict.Done Ack ∷ EpOut (packet a b c d e) (Offer (a ∷ b ∷ c ∷ d ∷ e ∷ [])) ∷ []))))
       (begins (view_after defaults start past))
 
   -- ---- all of it
@@ -291,9 +291,9 @@ module _ (defaults : DefaultCodes) where
   later start (call ∷ xs) ys l = later start xs ys l.1
 
   by_change : (start : List ℕ) (past steps : List Call) (a b c d e : ℕ) (status : EpAnswer) (command : Command) (change : Bool) → changes defaults (keymap defaults (image_after start past)) command ≡ change
-      → command_in (a ∷ b ∷ c ∷ d ∷ e ∷ []) ≡ Ok command → AreWhole steps → length steps ≡ (if change then length (operations_of defaults (image_after start past) command) else 0)
+      → command_of_bytes (a ∷ b ∷ c ∷ d ∷ e ∷ []) ≡ Ok command → AreWhole steps → length steps ≡ (if change then length (operations_of defaults (image_after start past) command) else 0)
       → EachCall (IsAnswered defaults) start (In status ∷ steps ++ begun past a b c d e) → IsServed Ack steps status
-  by_change start past steps a b c d e status command true ch r whole all lawful =
+  by_change start past steps a b c d e status command true ch r whole all conforming =
       let now = begun past a b c d e in
       let first : Goes start (image_after start past) command now [] = record {
         all = tt;
@@ -302,24 +302,24 @@ module _ (defaults : DefaultCodes) where
         since = accepted_image-now start (Out (packet a b c d e) Ack) (SetUp set_feature ∷ past) command (accepts_data past a b c d e command r);
         endpoint = refl;
       } in
-      let done = ended start (image_after start past) command now steps first whole all (some_operation (image_after start past) command) lawful.1 in
+      let done = ended start (image_after start past) command now steps first whole all (some_operation (image_after start past) command) conforming.1 in
       record {
         acknowledged = refl;
         stored = done.stored;
-        confirmed = lawful.0 ∙ ap in_answer (ap stage (done.endpoint ∙ ap (λ (l : List EpCall). Settle ∷ l) (calls_data start past a b c d e command true r ch)) ∙ stage_stored start past a b c d e);
+        confirmed = conforming.0 ∙ ap in_answer (ap stage (done.endpoint ∙ ap (λ (l : List EpCall). Settle ∷ l) (calls_data start past a b c d e command true r ch)) ∙ stage_stored start past a b c d e);
       }
-  by_change start past [] a b c d e status command false ch r whole all lawful = record {
+  by_change start past [] a b c d e status command false ch r whole all conforming = record {
     acknowledged = refl;
     stored = tt;
-    confirmed = lawful.0 ∙ ap in_answer (ap stage (calls_data start past a b c d e command false r ch) ∙ stage_done start past a b c d e);
+    confirmed = conforming.0 ∙ ap in_answer (ap stage (calls_data start past a b c d e command false r ch) ∙ stage_done start past a b c d e);
   }
-  by_change start past (call ∷ steps) a b c d e status command false ch r whole all lawful = absurd (omega (arith, all))
+  by_change start past (call ∷ steps) a b c d e status command false ch r whole all conforming = absurd (omega (arith, all))
 
-  pub served : (start : List ℕ) (past steps : List Call) (a b c d e : ℕ) (given status : EpAnswer) (command : Command) → IsReady defaults start past → command_in (a ∷ b ∷ c ∷ d ∷ e ∷ []) ≡ Ok command → AreWhole steps
+  pub served : (start : List ℕ) (past steps : List Call) (a b c d e : ℕ) (given status : EpAnswer) (command : Command) → IsReady defaults start past → command_of_bytes (a ∷ b ∷ c ∷ d ∷ e ∷ []) ≡ Ok command → AreWhole steps
       → length steps ≡ steps_for defaults (image_after start past) command → EachCall (IsAnswered defaults) start (In status ∷ steps ++ Out (3 ∷ a ∷ b ∷ c ∷ d ∷ e ∷ []) given ∷ SetUp set_feature ∷ past) → IsServed given steps status
-  served start past steps a b c d e given status command ready r whole all lawful =
-      let taken : given ≡ Ack = data_taken start past a b c d e command given ready r (later start steps (Out (packet a b c d e) given ∷ SetUp set_feature ∷ past) lawful.1).0 in
+  served start past steps a b c d e given status command ready r whole all conforming =
+      let taken : given ≡ Ack = data_taken start past a b c d e command given ready r (later start steps (Out (packet a b c d e) given ∷ SetUp set_feature ∷ past) conforming.1).0 in
       let there : EachCall (IsAnswered defaults) start (In status ∷ steps ++ begun past a b c d e) =
-      subst (λ (x : EpAnswer). EachCall (IsAnswered defaults) start (In status ∷ steps ++ Out (packet a b c d e) x ∷ SetUp set_feature ∷ past)) taken lawful in
+      subst (λ (x : EpAnswer). EachCall (IsAnswered defaults) start (In status ∷ steps ++ Out (packet a b c d e) x ∷ SetUp set_feature ∷ past)) taken conforming in
       subst (λ (x : EpAnswer). IsServed x steps status) (sym taken)
       (by_change start past steps a b c d e status command (changes defaults (keymap defaults (image_after start past)) command) refl r whole all there)

@@ -9,7 +9,7 @@ use Rattle.keyboard.specs.Calls.{Call, image_after, keymap, EachCall}
 use Rattle.keyboard.specs.Fate.{Fate, works, settled, failed}
 use Rattle.keyboard.specs.Commands.{Accepted, accepted, working, settled_of, standing_of, commands_of, unless_failed, if_settled}
 use Rattle.keyboard.specs.Restart.{AllButLastSettled, LegalRestart, RestartsLegally}
-use Rattle.keyboard.specs.Lawful.{IsAnswered}
+use Rattle.keyboard.specs.Conforming.{IsAnswered}
 use Rattle.keyboard.proofs.Sessions.{AllEnded, Shape, at_rest, at_work, Orderly, orderly, settled_of-append, AtWork, while_working, changed_by_working}
 
 -- each of these commands is settled

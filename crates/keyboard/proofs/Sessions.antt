@@ -10,7 +10,7 @@ use Rattle.keymap_store.specs.Keymap.{SameEntries}
 use Rattle.keyboard.specs.Calls.{Call, image_after, keymap, EachCall}
 use Rattle.keyboard.specs.Fate.{Fate, works, settled, failed, fate, changes, ended_by}
 use Rattle.keyboard.specs.Commands.{Accepted, accepted, accepts, working, working_of, if_works, if_settled, settled_of}
-use Rattle.keyboard.specs.Lawful.{IsAnswered}
+use Rattle.keyboard.specs.Conforming.{IsAnswered}
 use Rattle.keyboard.proofs.Accepting.{end_with, EndsNone, map-end_none, accepted-more, accepted-same, ended_by-settled, ended_by-failed}
 use Rattle.keyboard.proofs.Changing.{changes-false}
 use Rattle.keyboard.proofs.Effects.{Effect, stays, takes, settles, fails, effect}

@@ -19,8 +19,8 @@ use Rattle.keymap_store.specs.declared.store.Work.TheVariants.{Idle, Working, Se
 use Rattle.keyboard.specs.Calls.{Call, Scanned, SetUp, Out, In, Polled, Worked, BusReset, image_after}
 use Rattle.keyboard.specs.Commands.{working}
 use Rattle.keyboard.specs.Endpoint.{stage_after}
-use Rattle.keyboard.specs.Feature.{Where, yes, no, ReadAnswer, FeatureAnswer, command_in}
-use Rattle.keyboard.specs.Lawful.{OutAnswer, WorkedOn, IsAnswered, IsLawful}
+use Rattle.keyboard.specs.Feature.{Where, yes, no, ReadAnswer, FeatureAnswer, command_of_bytes}
+use Rattle.keyboard.specs.Conforming.{OutAnswer, WorkedOn, IsAnswered, IsConforming}
 use Rattle.keyboard.specs.Operated.{Works}
 use Rattle.keyboard.specs.Single.{unanswered, without_image, NoneFails, MayBeTorn}
 
@@ -88,7 +88,7 @@ module _ (defaults : DefaultCodes) where
   read_once image (Ok command) a b x y = by_where (a ≡ b) to_one (by_where (a ≡ b) to_one (by_where (a ≡ b) to_one to_one)) x y
 
   feature_once : (image : List ℕ) (busy : Bool) (bytes : List ℕ) (a b : EpAnswer) → FeatureAnswer defaults image busy bytes a → FeatureAnswer defaults image busy bytes b → a ≡ b
-  feature_once image busy bytes a b x y = by_where (a ≡ b) to_one (by_where (a ≡ b) to_one (read_once image (command_in bytes) a b)) x y
+  feature_once image busy bytes a b x y = by_where (a ≡ b) to_one (by_where (a ≡ b) to_one (read_once image (command_of_bytes bytes) a b)) x y
 
   pub out_once : (step : OutStep) (image : List ℕ) (busy : Bool) (a b : EpAnswer) → OutAnswer defaults step image busy a → OutAnswer defaults step image busy b → a ≡ b
   out_once (outs.Answered answered) image busy a b x y = to_one x y
@@ -145,7 +145,7 @@ module _ (defaults : DefaultCodes) where
   same_answer start before BusReset BusReset x y e = refl
   same_answer start before _ _ x y e = cc
 
-  pub one_session : (start : List ℕ) (a b : List Call) → IsLawful defaults start a → IsLawful defaults start b → map unanswered a ≡ map unanswered b → a ≡ b
+  pub one_session : (start : List ℕ) (a b : List Call) → IsConforming defaults start a → IsConforming defaults start b → map unanswered a ≡ map unanswered b → a ≡ b
   one_session start [] [] x y e = refl
   one_session start [] (call ∷ before) x y e = cc
   one_session start (call ∷ before) [] x y e = cc
@@ -186,7 +186,7 @@ module _ (defaults : DefaultCodes) where
   same_image start before _ (Worked work image) n x y e = cc
   same_image start before _ _ n x y e = e
 
-  pub same_images_left : (start : List ℕ) (a b : List Call) → IsLawful defaults start a → IsLawful defaults start b → NoneFails a → map without_image a ≡ map without_image b → a ≡ b
+  pub same_images_left : (start : List ℕ) (a b : List Call) → IsConforming defaults start a → IsConforming defaults start b → NoneFails a → map without_image a ≡ map without_image b → a ≡ b
   same_images_left start [] [] x y n e = refl
   same_images_left start [] (call ∷ before) x y n e = cc
   same_images_left start (call ∷ before) [] x y n e = cc

@@ -6,7 +6,7 @@ use Rattle.page_turnover.specs.Usable.{IsUsable}
 use Rattle.keymap_store.specs.declared.store.Work.{Work as WorkAnswer}
 use Rattle.keyboard.specs.Calls.{Call, Scanned, SetUp, Out, In, Polled, Worked, BusReset, image_after, EachCall}
 use Rattle.keyboard.specs.Commands.{working}
-use Rattle.keyboard.specs.Lawful.{IsAnswered, WorkedOn}
+use Rattle.keyboard.specs.Conforming.{IsAnswered, WorkedOn}
 use Rattle.keyboard.specs.Sound.{NoneOperates, KeepsSound}
 
 -- nothing was operated, or the flash was sound and is

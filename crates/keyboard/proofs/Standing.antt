@@ -10,8 +10,8 @@ use Rattle.reports.specs.Calls.{polled, was_reset}
 use Rattle.key_reports.specs.Calls.{Scanned as KeysScanned, Asked}
 use Rattle.key_reports.specs.Past.{answer_after}
 use Rattle.key_reports.specs.Tables.{table}
-use Rattle.key_reports.specs.ties.Value.{KeysValue}
-use Rattle.key_reports.specs.ties.Stands as key_reports
+use Rattle.key_reports.specs.representation.Value.{KeysValue}
+use Rattle.key_reports.specs.representation.Relation as key_reports
 use Rattle.control_ep.specs.declared.why.Why.{Why}
 use Rattle.control_ep.specs.declared.why.Why.TheVariants.{ShortData, LongData, UnknownReport}
 use Rattle.control_ep.specs.declared.answer.EpAnswer.{EpAnswer}
@@ -26,19 +26,19 @@ use Rattle.control_ep.specs.Calls.{EpCall, Setup, Out as EpOut, In as EpIn, Rese
 use Rattle.control_ep.specs.Packets.{packet_at}
 use Rattle.control_ep.specs.Stage.{is_empty_packet}
 use Rattle.control_ep.specs.Answers.{out_step, in_answer, in_effect, packet_or_stall, received_report, report_step, closing_step, has_id}
-use Rattle.control_ep.specs.ties.Stands as control_ep
+use Rattle.control_ep.specs.representation.Relation as control_ep
 use Rattle.keymap_store.specs.Value.{StoreValue}
 use Rattle.keymap_store.specs.Store.{working as working_in}
 use Rattle.keyboard.specs.Calls.{Call, Scanned, SetUp, Out, In, Polled, BusReset, setup_of, image_after, keymap}
-use Rattle.keyboard.specs.Effects.{Entry, report_named, report_taken, leds_in, leds_after, entry_in_report, selected, effect_asked, effect_told, protocol_then, protocol_after}
+use Rattle.keyboard.specs.Effects.{Entry, report_named, report_taken, leds_in, leds_after, entry_in_report, selected, effect_asked, effect_reported, protocol_then, protocol_after}
 use Rattle.keyboard.proofs.Sent.{sent_as}
 use Rattle.keyboard.specs.Keys.{with_effect, key_calls}
 use Rattle.keyboard.specs.Commands.{accepts, command_in_report, working, working_of}
 use Rattle.keyboard.specs.Endpoint.{view_after, with_out, ep_calls, stage_after}
 use Rattle.keyboard.specs.Bounded.{counted, steps_since, accepted_image}
-use Rattle.keyboard.specs.Lawful.{IsAnswered, OutAnswer}
-use Rattle.keyboard.specs.ties.Value.{KeyboardValue}
-use Rattle.keyboard.specs.ties.Stands.{StandsFor}
+use Rattle.keyboard.specs.Conforming.{IsAnswered, OutAnswer}
+use Rattle.keyboard.specs.representation.Value.{KeyboardValue}
+use Rattle.keyboard.specs.representation.Relation.{Refines}
 use Rattle.keyboard.proofs.Accepting.{EndsNone, accepted-same}
 use Rattle.keyboard.proofs.Bounding.{steps_since-same, accepted_image-same}
 use Rattle.keyboard.proofs.Served.{Serves, serves}
@@ -49,17 +49,17 @@ if_same : (b : Bool) (effect : Effect) → effect ≡ Nothing → (if b then eff
 if_same true effect e = e
 if_same false effect e = refl
 
-sent_told : (before : List Call) (packet : Option (List ℕ)) → effect_asked (setup_of before) ≡ Nothing → effect_told before (packet_or_stall packet) ≡ Nothing
-sent_told before None e = refl
-sent_told before (Some packet) e = if_same (is_empty_packet (packet_or_stall (Some packet))) (effect_asked (setup_of before)) e
+sent_reported : (before : List Call) (packet : Option (List ℕ)) → effect_asked (setup_of before) ≡ Nothing → effect_reported before (packet_or_stall packet) ≡ Nothing
+sent_reported before None e = refl
+sent_reported before (Some packet) e = if_same (is_empty_packet (packet_or_stall (Some packet))) (effect_asked (setup_of before)) e
 
-told_by : (before : List Call) (now : Stage) → Serves (setup_of before) now → effect_told before (in_answer now) ≡ in_effect now
-told_by before Rest s = refl
-told_by before (Sending bytes asked sent) s = sent_told before (packet_at bytes asked sent) s.1
-told_by before (Taking report) s = refl
-told_by before Waiting s = refl
-told_by before (Status effect) s = s
-told_by before (Stalled why) s = refl
+reported_by : (before : List Call) (now : Stage) → Serves (setup_of before) now → effect_reported before (in_answer now) ≡ in_effect now
+reported_by before Rest s = refl
+reported_by before (Sending bytes asked sent) s = sent_reported before (packet_at bytes asked sent) s.1
+reported_by before (Taking report) s = refl
+reported_by before Waiting s = refl
+reported_by before (Status effect) s = s
+reported_by before (Stalled why) s = refl
 
 -- a report that was taken leaves everything where none was
 pub record TakesNothing (past : List Call) (packet : List ℕ) (answer : EpAnswer) : Type 0 where
@@ -178,16 +178,16 @@ module _ (defaults : DefaultCodes) where
 
   -- what a call leaves beside the commands
   pub record PartsAfter (start : List ℕ) (past : List Call) (new : KeyboardValue) : Type 0 where
-    pub ep : control_ep.StandsFor (ep_calls defaults start past) new.ep
-    pub keys : key_reports.StandsFor (key_calls defaults start past) new.keys
+    pub ep : control_ep.Refines (ep_calls defaults start past) new.ep
+    pub keys : key_reports.Refines (key_calls defaults start past) new.keys
     pub protocol : new.protocol ≡ protocol_after past
     pub leds : new.leds ≡ leds_after past
     pub layer : new.layer ≡ (selected past).layer
     pub key : new.key ≡ (selected past).key
 
-  pub stands_with : (start : List ℕ) (past : List Call) (call : Call) (old new : KeyboardValue) → StandsFor defaults start past old → Leaves_commands start past call → new.store ≡ old.store
-      → PartsAfter start (call ∷ past) new → IsAnswered defaults start past call → StandsFor defaults start (call ∷ past) new
-  stands_with start past call old new h l s p a =
+  pub refines_with : (start : List ℕ) (past : List Call) (call : Call) (old new : KeyboardValue) → Refines defaults start past old → Leaves_commands start past call → new.store ≡ old.store
+      → PartsAfter start (call ∷ past) new → IsAnswered defaults start past call → Refines defaults start (call ∷ past) new
+  refines_with start past call old new h l s p a =
       let count : steps_since (call ∷ past) ≡ steps_since past = steps_since-same call past l.no_work l.accepts_none in
       let accepted_at : accepted_image start (call ∷ past) ≡ accepted_image start past = accepted_image-same start call past l.accepts_none in
       record {
@@ -208,16 +208,16 @@ module _ (defaults : DefaultCodes) where
       }
 
   -- a scan
-  pub stands_scan : (start : List ℕ) (past : List Call) (scan : Scan) (keys : KeysValue) (old : KeyboardValue) → StandsFor defaults start past old
-      → key_reports.StandsFor (KeysScanned scan (table (keymap defaults (image_after start past))) old.protocol ∷ key_calls defaults start past) keys
-      → StandsFor defaults start (Scanned scan ∷ past) (record old { keys = keys })
+  pub refines_scan : (start : List ℕ) (past : List Call) (scan : Scan) (keys : KeysValue) (old : KeyboardValue) → Refines defaults start past old
+      → key_reports.Refines (KeysScanned scan (table (keymap defaults (image_after start past))) old.protocol ∷ key_calls defaults start past) keys
+      → Refines defaults start (Scanned scan ∷ past) (record old { keys = keys })
   unfolding ep_calls key_calls leds_after selected protocol_after accepts
-  stands_scan start past scan keys old h k =
-      stands_with start past (Scanned scan) old (record old { keys = keys }) h
+  refines_scan start past scan keys old h k =
+      refines_with start past (Scanned scan) old (record old { keys = keys }) h
       (record { ends_none = record { keeps = λ f. refl }; accepts_none = refl; same_image = refl; no_work = λ count. refl }) refl
       (record {
         ep = h.now.ep;
-        keys = subst (λ (p : Protocol). key_reports.StandsFor (KeysScanned scan (table (keymap defaults (image_after start past))) p ∷ key_calls defaults start past) keys) h.now.protocol k;
+        keys = subst (λ (p : Protocol). key_reports.Refines (KeysScanned scan (table (keymap defaults (image_after start past))) p ∷ key_calls defaults start past) keys) h.now.protocol k;
         protocol = h.now.protocol;
         leds = h.now.leds;
         layer = h.now.layer;
@@ -226,16 +226,16 @@ module _ (defaults : DefaultCodes) where
       tt
 
   -- a poll
-  pub stands_polled : (start : List ℕ) (past : List Call) (answer : Option (List ℕ)) (keys : KeysValue) (old : KeyboardValue) → StandsFor defaults start past old
-      → answer ≡ answer_after old.protocol (key_calls defaults start past) → key_reports.StandsFor (Asked (polled old.protocol answer) ∷ key_calls defaults start past) keys
-      → StandsFor defaults start (Polled answer ∷ past) (record old { keys = keys })
+  pub refines_polled : (start : List ℕ) (past : List Call) (answer : Option (List ℕ)) (keys : KeysValue) (old : KeyboardValue) → Refines defaults start past old
+      → answer ≡ answer_after old.protocol (key_calls defaults start past) → key_reports.Refines (Asked (polled old.protocol answer) ∷ key_calls defaults start past) keys
+      → Refines defaults start (Polled answer ∷ past) (record old { keys = keys })
   unfolding ep_calls key_calls leds_after selected protocol_after accepts
-  stands_polled start past answer keys old h a k =
-      stands_with start past (Polled answer) old (record old { keys = keys }) h
+  refines_polled start past answer keys old h a k =
+      refines_with start past (Polled answer) old (record old { keys = keys }) h
       (record { ends_none = record { keeps = λ f. refl }; accepts_none = refl; same_image = refl; no_work = λ count. refl }) refl
       (record {
         ep = h.now.ep;
-        keys = subst (λ (p : Protocol). key_reports.StandsFor (Asked (polled p answer) ∷ key_calls defaults start past) keys) h.now.protocol k;
+        keys = subst (λ (p : Protocol). key_reports.Refines (Asked (polled p answer) ∷ key_calls defaults start past) keys) h.now.protocol k;
         protocol = h.now.protocol;
         leds = h.now.leds;
         layer = h.now.layer;
@@ -244,15 +244,15 @@ module _ (defaults : DefaultCodes) where
       (a ∙ ap (λ (p : Protocol). answer_after p (key_calls defaults start past)) h.now.protocol)
 
   -- a SETUP packet
-  pub stands_setup : (start : List ℕ) (past : List Call) (packet : List ℕ) (view : DeviceView) (ep : Stage) (old : KeyboardValue) → StandsFor defaults start past old
-      → view ≡ view_after defaults start past → control_ep.StandsFor (Setup packet view ∷ ep_calls defaults start past) ep
-      → StandsFor defaults start (SetUp packet ∷ past) (record old { ep = ep })
+  pub refines_setup : (start : List ℕ) (past : List Call) (packet : List ℕ) (view : DeviceView) (ep : Stage) (old : KeyboardValue) → Refines defaults start past old
+      → view ≡ view_after defaults start past → control_ep.Refines (Setup packet view ∷ ep_calls defaults start past) ep
+      → Refines defaults start (SetUp packet ∷ past) (record old { ep = ep })
   unfolding ep_calls key_calls leds_after selected protocol_after accepts
-  stands_setup start past packet view ep old h v e =
-      stands_with start past (SetUp packet) old (record old { ep = ep }) h
+  refines_setup start past packet view ep old h v e =
+      refines_with start past (SetUp packet) old (record old { ep = ep }) h
       (record { ends_none = record { keeps = λ f. refl }; accepts_none = refl; same_image = refl; no_work = λ count. refl }) refl
       (record {
-        ep = subst (λ (x : DeviceView). control_ep.StandsFor (Setup packet x ∷ ep_calls defaults start past) ep) v e;
+        ep = subst (λ (x : DeviceView). control_ep.Refines (Setup packet x ∷ ep_calls defaults start past) ep) v e;
         keys = h.now.keys;
         protocol = h.now.protocol;
         leds = h.now.leds;
@@ -262,31 +262,31 @@ module _ (defaults : DefaultCodes) where
       tt
 
   -- a bus reset
-  pub stands_reset : (start : List ℕ) (past : List Call) (ep : Stage) (keys : KeysValue) (old : KeyboardValue) → StandsFor defaults start past old
-      → control_ep.StandsFor (Reset ∷ ep_calls defaults start past) ep → key_reports.StandsFor (Asked was_reset ∷ key_calls defaults start past) keys
-      → StandsFor defaults start (BusReset ∷ past) (record old { ep = ep; keys = keys; protocol = Report; leds = 0 })
+  pub refines_reset : (start : List ℕ) (past : List Call) (ep : Stage) (keys : KeysValue) (old : KeyboardValue) → Refines defaults start past old
+      → control_ep.Refines (Reset ∷ ep_calls defaults start past) ep → key_reports.Refines (Asked was_reset ∷ key_calls defaults start past) keys
+      → Refines defaults start (BusReset ∷ past) (record old { ep = ep; keys = keys; protocol = Report; leds = 0 })
   unfolding ep_calls key_calls leds_after selected protocol_after accepts
-  stands_reset start past ep keys old h e k =
-      stands_with start past BusReset old (record old { ep = ep; keys = keys; protocol = Report; leds = 0 }) h
+  refines_reset start past ep keys old h e k =
+      refines_with start past BusReset old (record old { ep = ep; keys = keys; protocol = Report; leds = 0 }) h
       (record { ends_none = record { keeps = λ f. refl }; accepts_none = refl; same_image = refl; no_work = λ count. refl }) refl
       (record { ep = e; keys = k; protocol = refl; leds = refl; layer = h.now.layer; key = h.now.key })
       tt
 
   -- an IN packet
-  pub stands_in : (start : List ℕ) (past : List Call) (answer : EpAnswer) (effect : Effect) (ep : Stage) (keys : KeysValue) (protocol : Protocol) (old : KeyboardValue) → StandsFor defaults start past old
+  pub refines_in : (start : List ℕ) (past : List Call) (answer : EpAnswer) (effect : Effect) (ep : Stage) (keys : KeysValue) (protocol : Protocol) (old : KeyboardValue) → Refines defaults start past old
       → answer ≡ in_answer (stage_after defaults start past) → effect ≡ in_effect (stage_after defaults start past)
-      → control_ep.StandsFor (EpIn answer effect ∷ ep_calls defaults start past) ep → key_reports.StandsFor (with_effect effect (key_calls defaults start past)) keys
+      → control_ep.Refines (EpIn answer effect ∷ ep_calls defaults start past) ep → key_reports.Refines (with_effect effect (key_calls defaults start past)) keys
       → protocol ≡ protocol_then effect old.protocol
-      → StandsFor defaults start (In answer ∷ past) (record old { ep = ep; keys = keys; protocol = protocol })
+      → Refines defaults start (In answer ∷ past) (record old { ep = ep; keys = keys; protocol = protocol })
   unfolding ep_calls key_calls leds_after selected protocol_after accepts
-  stands_in start past answer effect ep keys protocol old h a f e k p =
-      let told : effect ≡ effect_told past answer = f ∙ sym (told_by past (stage_after defaults start past) (serves defaults start past)) ∙ ap (λ (x : EpAnswer). effect_told past x) (sym a) in
-      stands_with start past (In answer) old (record old { ep = ep; keys = keys; protocol = protocol }) h
+  refines_in start past answer effect ep keys protocol old h a f e k p =
+      let reported : effect ≡ effect_reported past answer = f ∙ sym (reported_by past (stage_after defaults start past) (serves defaults start past)) ∙ ap (λ (x : EpAnswer). effect_reported past x) (sym a) in
+      refines_with start past (In answer) old (record old { ep = ep; keys = keys; protocol = protocol }) h
       (record { ends_none = record { keeps = λ f. refl }; accepts_none = refl; same_image = refl; no_work = λ count. refl }) refl
       (record {
-        ep = subst (λ (x : Effect). control_ep.StandsFor (EpIn answer x ∷ ep_calls defaults start past) ep) told e;
-        keys = subst (λ (x : Effect). key_reports.StandsFor (with_effect x (key_calls defaults start past)) keys) told k;
-        protocol = p ∙ ap (λ (x : Effect). protocol_then x old.protocol) told ∙ ap (λ (x : Protocol). protocol_then (effect_told past answer) x) h.now.protocol;
+        ep = subst (λ (x : Effect). control_ep.Refines (EpIn answer x ∷ ep_calls defaults start past) ep) reported e;
+        keys = subst (λ (x : Effect). key_reports.Refines (with_effect x (key_calls defaults start past)) keys) reported k;
+        protocol = p ∙ ap (λ (x : Effect). protocol_then x old.protocol) reported ∙ ap (λ (x : Protocol). protocol_then (effect_reported past answer) x) h.now.protocol;
         leds = h.now.leds;
         layer = h.now.layer;
         key = h.now.key;
@@ -308,12 +308,12 @@ module _ (defaults : DefaultCodes) where
   out_leaves start past packet answer e = record { ends_none = ends_none_out defaults packet answer; accepts_none = accepts-out past packet answer None e; same_image = refl; no_work = λ count. refl }
 
   -- an OUT packet that takes nothing
-  pub stands_untaken : (start : List ℕ) (past : List Call) (packet : List ℕ) (answer : EpAnswer) (ep : Stage) (old new : KeyboardValue) → StandsFor defaults start past old → TakesNothing past packet answer
-      → new ≡ record old { ep = ep } → control_ep.StandsFor (ep_calls defaults start (Out packet answer ∷ past)) ep → IsAnswered defaults start past (Out packet answer)
-      → StandsFor defaults start (Out packet answer ∷ past) new
-  stands_untaken start past packet answer ep old new h t n e a =
-      subst (λ (x : KeyboardValue). StandsFor defaults start (Out packet answer ∷ past) x) (sym n)
-      (stands_with start past (Out packet answer) old (record old { ep = ep }) h (out_leaves start past packet answer t.command) refl
+  pub refines_untaken : (start : List ℕ) (past : List Call) (packet : List ℕ) (answer : EpAnswer) (ep : Stage) (old new : KeyboardValue) → Refines defaults start past old → TakesNothing past packet answer
+      → new ≡ record old { ep = ep } → control_ep.Refines (ep_calls defaults start (Out packet answer ∷ past)) ep → IsAnswered defaults start past (Out packet answer)
+      → Refines defaults start (Out packet answer ∷ past) new
+  refines_untaken start past packet answer ep old new h t n e a =
+      subst (λ (x : KeyboardValue). Refines defaults start (Out packet answer ∷ past) x) (sym n)
+      (refines_with start past (Out packet answer) old (record old { ep = ep }) h (out_leaves start past packet answer t.command) refl
       (record {
         ep = e;
         keys = rw (keys-out start past packet answer) h.now.keys;
@@ -325,23 +325,23 @@ module _ (defaults : DefaultCodes) where
       a)
 
   -- an OUT packet that the endpoint answers
-  pub stands_answered : (start : List ℕ) (past : List Call) (packet : List ℕ) (answer : EpAnswer) (ep : Stage) (old : KeyboardValue) → StandsFor defaults start past old
-      → Answered answer ≡ out_step (stage_after defaults start past) packet → control_ep.StandsFor (EpOut packet (Answered answer) ∷ ep_calls defaults start past) ep
-      → StandsFor defaults start (Out packet answer ∷ past) (record old { ep = ep })
-  stands_answered start past packet answer ep old h s e =
-      stands_untaken start past packet answer ep old (record old { ep = ep }) h
+  pub refines_answered : (start : List ℕ) (past : List Call) (packet : List ℕ) (answer : EpAnswer) (ep : Stage) (old : KeyboardValue) → Refines defaults start past old
+      → Answered answer ≡ out_step (stage_after defaults start past) packet → control_ep.Refines (EpOut packet (Answered answer) ∷ ep_calls defaults start past) ep
+      → Refines defaults start (Out packet answer ∷ past) (record old { ep = ep })
+  refines_answered start past packet answer ep old h s e =
+      refines_untaken start past packet answer ep old (record old { ep = ep }) h
       (takes_nothing past packet answer (answered_takes past packet answer (stage_after defaults start past) (serves defaults start past) s)) refl
-      (subst (λ (calls : List EpCall). control_ep.StandsFor calls ep) (sym (ep_calls-out start past packet answer (Answered answer) s)) e)
+      (subst (λ (calls : List EpCall). control_ep.Refines calls ep) (sym (ep_calls-out start past packet answer (Answered answer) s)) e)
       (subst (λ (x : OutStep). OutAnswer defaults x (image_after start past) (is_some (working defaults start past)) answer) s refl)
 
-  pub stands_leds : (start : List ℕ) (past : List Call) (packet : List ℕ) (leds : ℕ) (ep : Stage) (old : KeyboardValue) → StandsFor defaults start past old
-      → Leds leds ≡ out_step (stage_after defaults start past) packet → control_ep.StandsFor (EpOut packet (Leds leds) ∷ ep_calls defaults start past) ep
-      → StandsFor defaults start (Out packet Ack ∷ past) (record old { ep = ep; leds = leds })
-  stands_leds start past packet leds ep old h s e =
+  pub refines_leds : (start : List ℕ) (past : List Call) (packet : List ℕ) (leds : ℕ) (ep : Stage) (old : KeyboardValue) → Refines defaults start past old
+      → Leds leds ≡ out_step (stage_after defaults start past) packet → control_ep.Refines (EpOut packet (Leds leds) ∷ ep_calls defaults start past) ep
+      → Refines defaults start (Out packet Ack ∷ past) (record old { ep = ep; leds = leds })
+  refines_leds start past packet leds ep old h s e =
       let t : LedsTaken past packet leds = leds_taken past packet leds (stage_after defaults start past) (serves defaults start past) s in
-      stands_with start past (Out packet Ack) old (record old { ep = ep; leds = leds }) h (out_leaves start past packet Ack t.command) refl
+      refines_with start past (Out packet Ack) old (record old { ep = ep; leds = leds }) h (out_leaves start past packet Ack t.command) refl
       (record {
-        ep = subst (λ (calls : List EpCall). control_ep.StandsFor calls ep) (sym (ep_calls-out start past packet Ack (Leds leds) s)) e;
+        ep = subst (λ (calls : List EpCall). control_ep.Refines calls ep) (sym (ep_calls-out start past packet Ack (Leds leds) s)) e;
         keys = rw (keys-out start past packet Ack) h.now.keys;
         protocol = h.now.protocol ∙ sym (protocol-out past packet Ack);
         leds = sym (leds-out past packet Ack (Some leds) t.leds_is);

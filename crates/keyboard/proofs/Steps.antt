@@ -20,7 +20,7 @@ use Rattle.keymap_store.specs.Works.{IsPlacedAt, IsTornAt}
 use Rattle.keyboard.specs.Bounded.{steps_since}
 use Rattle.keyboard.specs.Calls.{Call, image_after, keymap, EachCall}
 use Rattle.keyboard.specs.Commands.{working}
-use Rattle.keyboard.specs.Lawful.{IsAnswered}
+use Rattle.keyboard.specs.Conforming.{IsAnswered}
 use Rattle.keyboard.specs.Operated.{LosesNothing, IsRecord, HoldsFirst, IsOfTurn, erases as erases_target, copies, heads, Works}
 use Rattle.keyboard.specs.Restart.{RestartsLegally}
 use Rattle.keyboard.proofs.Working.{cut_legal}
@@ -49,11 +49,11 @@ torn_by command old operation new r m n =
 not_failed : (work : WorkAnswer) → work ≡ Settled → work ≢ Failed
 not_failed work e f = cc
 
--- of a turn
+-- of a compaction
 slot_in_page : (old : List ℕ) (page slot : ℕ) (new : List ℕ) → OneSlot old page slot new → OnePage old page new
 slot_in_page old page slot new o = record { same_length = o.same_length; others = λ p s l n. o.others p s l (λ e f. n e) }
 
--- what each operation of a turn asks of the flash
+-- what each operation of a compaction asks of the flash
 same_page : (p q slot other word more : ℕ) → Program p slot word ≡ Program q other more → p ≡ q
 same_page p q slot other word more e = cc
 

@@ -12,7 +12,7 @@ use Rattle.control_ep.specs.declared.answer.EpAnswer.TheVariants.{Ack, Nak, Pack
 use Rattle.control_ep.specs.declared.answer.OutStep.{OutStep}
 use Rattle.control_ep.specs.declared.answer.OutStep.TheVariants.{Answered, Leds, Offer}
 use Rattle.control_ep.specs.Transfers.{LedsWithId, LedsAlone, FeatureData, Takes, Stage, Rest, Sending, Taking, Waiting, Status, Stalled}
-use Rattle.control_ep.specs.Calls.{EpCall, Judged, Out as EpOut}
+use Rattle.control_ep.specs.Calls.{EpCall, Checked, Out as EpOut}
 use Rattle.control_ep.specs.Stage.{Begins, calls_since, last_setup, first_stall, is_ack, acknowledges, is_empty_in, command_state, CommandState, NoCommand, Works, Settled, Failed, state_after, progress_of, after_command, unless_stalled, stage}
 use Rattle.control_ep.specs.Answers.{out_step, in_answer, received_report, report_step}
 use Rattle.control_ep.proofs.Stages.{stage-is, taking_is, IsTaking}
@@ -20,11 +20,11 @@ use Rattle.control_ep.proofs.Clean.{received_is}
 use Rattle.keymap_store.specs.declared.store.Work.TheVariants as Work
 use Rattle.keyboard.specs.Calls.{Call, Scanned, SetUp, Out, In, Polled, Worked, BusReset, setup_of, image_after, keymap, EachCall}
 use Rattle.keyboard.specs.Effects.{report_named}
-use Rattle.keyboard.specs.Feature.{command_in}
+use Rattle.keyboard.specs.Feature.{command_of_bytes}
 use Rattle.keyboard.specs.Fate.{Fate, works, settled, failed, fate, fate_after, changes, changes_by, ended_by}
 use Rattle.keyboard.specs.Commands.{accepts, working}
-use Rattle.keyboard.specs.Endpoint.{verdict_told, with_out, ep_calls, stage_after}
-use Rattle.keyboard.specs.Lawful.{IsAnswered, OutAnswer}
+use Rattle.keyboard.specs.Endpoint.{verdict_reported, with_out, ep_calls, stage_after}
+use Rattle.keyboard.specs.Conforming.{IsAnswered, OutAnswer}
 use Rattle.keyboard.specs.Acknowledged.{SameTransfer, DoesNotWrite, NoneAcceptedWrites, KeepsAcknowledged}
 use Rattle.keyboard.proofs.Accepting.{fate-more, ended_by-failed, ended_by-idle, ended_by-working}
 use Rattle.keyboard.proofs.Changing.{changes-false}
@@ -54,12 +54,12 @@ or_true false b e = e
 abbrev Untaken : List EpCall → Type 0
 Untaken calls = list_any acknowledges (calls_since calls) ≡ false → command_state (calls_since calls) ≡ NoCommand
 
-untaken_judged : (changing : Bool) (bytes packet : List ℕ) (answer : EpAnswer) (calls : List EpCall) → Untaken calls
-    → Untaken (Judged (verdict_told changing answer) answer ∷ EpOut packet (Offer bytes) ∷ calls)
-untaken_judged changing bytes packet Ack calls u e = cc
-untaken_judged changing bytes packet Nak calls u e = u e
-untaken_judged changing bytes packet (Packet p) calls u e = u e
-untaken_judged changing bytes packet (Stall why) calls u e = u e
+untaken_checked : (changing : Bool) (bytes packet : List ℕ) (answer : EpAnswer) (calls : List EpCall) → Untaken calls
+    → Untaken (Checked (verdict_reported changing answer) answer ∷ EpOut packet (Offer bytes) ∷ calls)
+untaken_checked changing bytes packet Ack calls u e = cc
+untaken_checked changing bytes packet Nak calls u e = u e
+untaken_checked changing bytes packet (Packet p) calls u e = u e
+untaken_checked changing bytes packet (Stall why) calls u e = u e
 
 ended_none : (state end : CommandState) → state ≡ NoCommand → state_after state end ≡ NoCommand
 ended_none NoCommand end e = refl
@@ -73,16 +73,16 @@ record Offered (now : Stage) (packet : List ℕ) : Type 0 where
   step : out_step now packet ≡ Offer (drop 1 packet)
 
 -- what the endpoint knows of a command, by what became of it
-abbrev state_told : Bool → Fate → CommandState
-state_told false f = NoCommand
-state_told true works = Works
-state_told true settled = Settled
-state_told true failed = Failed
+abbrev state_reported : Bool → Fate → CommandState
+state_reported false f = NoCommand
+state_reported true works = Works
+state_reported true settled = Settled
+state_reported true failed = Failed
 
-judged_state : (changing : Bool) (packet bytes : List ℕ) (calls : List EpCall) → command_state (calls_since calls) ≡ NoCommand
-    → command_state (calls_since (Judged (verdict_told changing Ack) Ack ∷ EpOut packet (Offer bytes) ∷ calls)) ≡ state_told changing works
-judged_state true packet bytes calls n = refl
-judged_state false packet bytes calls n = n
+checked_state : (changing : Bool) (packet bytes : List ℕ) (calls : List EpCall) → command_state (calls_since calls) ≡ NoCommand
+    → command_state (calls_since (Checked (verdict_reported changing Ack) Ack ∷ EpOut packet (Offer bytes) ∷ calls)) ≡ state_reported changing works
+checked_state true packet bytes calls n = refl
+checked_state false packet bytes calls n = n
 
 -- the stage of such a transfer
 taken_stage : (calls : List EpCall) (state : CommandState) → TakenBy calls state
@@ -121,7 +121,7 @@ ended_state None Failed confirmed e = cc
 ended_state None NoCommand confirmed e = (λ w. cc, λ f. cc)
 ended_state None Settled confirmed e = (λ w. cc, λ f. cc)
 
-settled_fate : (changing : Bool) (f : Fate) → (state_told changing f ≡ Works → ⊥) → (state_told changing f ≡ Failed → ⊥) → (if changing then f else settled) ≡ settled
+settled_fate : (changing : Bool) (f : Fate) → (state_reported changing f ≡ Works → ⊥) → (state_reported changing f ≡ Failed → ⊥) → (if changing then f else settled) ≡ settled
 settled_fate false f w n = refl
 settled_fate true works w n = absurd (w refl)
 settled_fate true settled w n = refl
@@ -197,21 +197,21 @@ module _ (defaults : DefaultCodes) where
       (stored start later past layer key code l k h.1 n.1 s)
 
   -- the command waits for its record, or is stored, or failed
-  data Told (start : List ℕ) (past before between : List Call) (layer key code : ℕ) (asked : Command) : Type 0 where
-    waits : fate defaults (keymap defaults (image_after start before)) asked between ≡ works → working defaults start past ≡ Some asked → Told start past before between layer key code asked
-    is_stored : Stored start past layer key code → Told start past before between layer key code asked
-    has_failed : fate defaults (keymap defaults (image_after start before)) asked between ≡ failed → Told start past before between layer key code asked
+  data Reported (start : List ℕ) (past before between : List Call) (layer key code : ℕ) (asked : Command) : Type 0 where
+    waits : fate defaults (keymap defaults (image_after start before)) asked between ≡ works → working defaults start past ≡ Some asked → Reported start past before between layer key code asked
+    is_stored : Stored start past layer key code → Reported start past before between layer key code asked
+    has_failed : fate defaults (keymap defaults (image_after start before)) asked between ≡ failed → Reported start past before between layer key code asked
 
   -- the packet that brings the command
-  told_at_packet : (start : List ℕ) (before : List Call) (call : Call) (layer key code : ℕ) (asked : Command) → layer < layers → key < keys → written defaults asked layer key ≡ Some code → Orderly defaults start before → Effect defaults start before call
-      → accepts before call ≡ Some asked → Told start (call ∷ before) before [] layer key code asked
-  told_at_packet start before call layer key code asked l k gives o (stays n a e) s = absurd (not_accepted (accepts before call) asked a s)
-  told_at_packet start before call layer key code asked l k gives o (settles command a n w e) s = absurd (not_accepted (accepts before call) asked n s)
-  told_at_packet start before call layer key code asked l k gives o (fails command a n w e) s = absurd (not_accepted (accepts before call) asked n s)
-  told_at_packet start before call layer key code asked l k gives o (takes command n a e free) s =
+  reported_at_packet : (start : List ℕ) (before : List Call) (call : Call) (layer key code : ℕ) (asked : Command) → layer < layers → key < keys → written defaults asked layer key ≡ Some code → Orderly defaults start before → Effect defaults start before call
+      → accepts before call ≡ Some asked → Reported start (call ∷ before) before [] layer key code asked
+  reported_at_packet start before call layer key code asked l k gives o (stays n a e) s = absurd (not_accepted (accepts before call) asked a s)
+  reported_at_packet start before call layer key code asked l k gives o (settles command a n w e) s = absurd (not_accepted (accepts before call) asked n s)
+  reported_at_packet start before call layer key code asked l k gives o (fails command a n w e) s = absurd (not_accepted (accepts before call) asked n s)
+  reported_at_packet start before call layer key code asked l k gives o (takes command n a e free) s =
       by_taken (after_takes defaults start before call asked o n s e free)
     where
-      by_taken : AfterTaken defaults start before call asked → Told start (call ∷ before) before [] layer key code asked
+      by_taken : AfterTaken defaults start before call asked → Reported start (call ∷ before) before [] layer key code asked
       by_taken (now_works c h) = waits (rw c refl) (working_after defaults start before call (Some asked) h)
       by_taken (changed_nothing c h) =
           is_stored (record {
@@ -222,18 +222,18 @@ module _ (defaults : DefaultCodes) where
           })
 
   -- a later call
-  told_more : (start : List ℕ) (past : List Call) (call : Call) (before between : List Call) (layer key code : ℕ) (asked : Command) → layer < layers → key < keys → written defaults asked layer key ≡ Some code → Orderly defaults start past → Effect defaults start past call
-      → DoesNotWrite defaults layer key (accepts past call) → Told start past before between layer key code asked → Told start (call ∷ past) before (call ∷ between) layer key code asked
-  told_more start past call before between layer key code asked l k gives o effect leaves (is_stored s) = is_stored (stored_more start past call layer key code l k o effect leaves s)
-  told_more start past call before between layer key code asked l k gives o effect leaves (has_failed f) =
+  reported_more : (start : List ℕ) (past : List Call) (call : Call) (before between : List Call) (layer key code : ℕ) (asked : Command) → layer < layers → key < keys → written defaults asked layer key ≡ Some code → Orderly defaults start past → Effect defaults start past call
+      → DoesNotWrite defaults layer key (accepts past call) → Reported start past before between layer key code asked → Reported start (call ∷ past) before (call ∷ between) layer key code asked
+  reported_more start past call before between layer key code asked l k gives o effect leaves (is_stored s) = is_stored (stored_more start past call layer key code l k o effect leaves s)
+  reported_more start past call before between layer key code asked l k gives o effect leaves (has_failed f) =
       has_failed (fate-more defaults (keymap defaults (image_after start before)) asked call between ∙ ap (ended_by defaults call) f ∙ ended_by-failed defaults call)
-  told_more start past call before between layer key code asked l k gives o (stays n a e) leaves (waits f w) =
+  reported_more start past call before between layer key code asked l k gives o (stays n a e) leaves (waits f w) =
       waits (fate-more defaults (keymap defaults (image_after start before)) asked call between ∙ n.keeps (fate defaults (keymap defaults (image_after start before)) asked between) ∙ f)
       (working_after defaults start past call (working defaults start past) (after_stays defaults start past call o n a e) ∙ w)
-  told_more start past call before between layer key code asked l k gives o (takes command n a e free) leaves (waits f w) = absurd (free (rw w refl))
-  told_more start past call before between layer key code asked l k gives o (fails command a n v e) leaves (waits f w) =
+  reported_more start past call before between layer key code asked l k gives o (takes command n a e free) leaves (waits f w) = absurd (free (rw w refl))
+  reported_more start past call before between layer key code asked l k gives o (fails command a n v e) leaves (waits f w) =
       has_failed (fate-more defaults (keymap defaults (image_after start before)) asked call between ∙ ap (ended_by defaults call) f ∙ a)
-  told_more start past call before between layer key code asked l k gives o (settles command a n v e) leaves (waits f w) =
+  reported_more start past call before between layer key code asked l k gives o (settles command a n v e) leaves (waits f w) =
       let same : command ≡ asked = cc in
       let now : working defaults start (call ∷ past) ≡ None = working_after defaults start past call None (after_settles defaults start past call command o a n v e) in
       is_stored (record {
@@ -241,18 +241,18 @@ module _ (defaults : DefaultCodes) where
         left_alone = rw now tt;
       })
 
-  told_between : (start : List ℕ) (between before : List Call) (call : Call) (layer key code : ℕ) (asked : Command) → layer < layers → key < keys → written defaults asked layer key ≡ Some code
+  reported_between : (start : List ℕ) (between before : List Call) (call : Call) (layer key code : ℕ) (asked : Command) → layer < layers → key < keys → written defaults asked layer key ≡ Some code
       → EachCall (IsAnswered defaults) start (between ++ call ∷ before) → NoneAcceptedWrites defaults between (call ∷ before) layer key → accepts before call ≡ Some asked
-      → Told start (between ++ call ∷ before) before between layer key code asked
-  told_between start [] before call layer key code asked l k gives h n s = told_at_packet start before call layer key code asked l k gives (orderly defaults start before h.1) (effect defaults start before call h.0) s
-  told_between start (next ∷ between) before call layer key code asked l k gives h n s =
-      told_more start (between ++ call ∷ before) next before between layer key code asked l k gives (orderly defaults start (between ++ call ∷ before) h.1) (effect defaults start (between ++ call ∷ before) next h.0)
-      n.0 (told_between start between before call layer key code asked l k gives h.1 n.1 s)
+      → Reported start (between ++ call ∷ before) before between layer key code asked
+  reported_between start [] before call layer key code asked l k gives h n s = reported_at_packet start before call layer key code asked l k gives (orderly defaults start before h.1) (effect defaults start before call h.0) s
+  reported_between start (next ∷ between) before call layer key code asked l k gives h n s =
+      reported_more start (between ++ call ∷ before) next before between layer key code asked l k gives (orderly defaults start (between ++ call ∷ before) h.1) (effect defaults start (between ++ call ∷ before) next h.0)
+      n.0 (reported_between start between before call layer key code asked l k gives h.1 n.1 s)
 
   untaken_out : (step : OutStep) (packet : List ℕ) (entries : ℕ → ℕ → ℕ) (answer : EpAnswer) (calls : List EpCall) → Untaken calls → Untaken (with_out defaults step packet entries answer calls)
   untaken_out (Answered a) packet entries answer calls u e = u (or_false (is_ack a) (list_any acknowledges (calls_since calls)) e)
   untaken_out (Leds leds) packet entries answer calls u e = cc
-  untaken_out (Offer bytes) packet entries answer calls u e = untaken_judged (changes_by defaults entries (command_in bytes)) bytes packet answer calls u e
+  untaken_out (Offer bytes) packet entries answer calls u e = untaken_checked (changes_by defaults entries (command_of_bytes bytes)) bytes packet answer calls u e
 
   untaken : (start : List ℕ) (past : List Call) → Untaken (ep_calls defaults start past)
   unfolding ep_calls
@@ -285,22 +285,22 @@ module _ (defaults : DefaultCodes) where
   offered_by image busy setup packet (Status effect) s n a = cc
   offered_by image busy setup packet (Stalled why) s n a = cc
 
-  taken_offered : (step : OutStep) (packet bytes : List ℕ) (entries : ℕ → ℕ → ℕ) (asked : Command) (calls : List EpCall) → step ≡ Offer bytes → command_in bytes ≡ Ok asked
+  taken_offered : (step : OutStep) (packet bytes : List ℕ) (entries : ℕ → ℕ → ℕ) (asked : Command) (calls : List EpCall) → step ≡ Offer bytes → command_of_bytes bytes ≡ Ok asked
       → IsTaking FeatureData (first_stall (calls_since calls)) (last_setup calls) (progress_of (calls_since calls)) → Untaken calls
-      → TakenBy (with_out defaults step packet entries Ack calls) (state_told (changes defaults entries asked) works)
+      → TakenBy (with_out defaults step packet entries Ack calls) (state_reported (changes defaults entries asked) works)
   taken_offered step packet bytes entries asked calls s c t u =
-      subst (λ (x : OutStep). TakenBy (with_out defaults x packet entries Ack calls) (state_told (changes defaults entries asked) works)) (sym s)
+      subst (λ (x : OutStep). TakenBy (with_out defaults x packet entries Ack calls) (state_reported (changes defaults entries asked) works)) (sym s)
       (record {
         length = t.length;
         begins = t.begins;
         taken = refl;
-        command = judged_state (changes_by defaults entries (command_in bytes)) packet bytes calls (u t.not_taken) ∙ ap (λ (r : Result Command KeymapError). state_told (changes_by defaults entries r) works) c;
+        command = checked_state (changes_by defaults entries (command_of_bytes bytes)) packet bytes calls (u t.not_taken) ∙ ap (λ (r : Result Command KeymapError). state_reported (changes_by defaults entries r) works) c;
       })
 
   -- the packet that brings the command
   taken_at_packet : (start : List ℕ) (before : List Call) (packet : List ℕ) (answer : EpAnswer) (asked : Command) → accepts before (Out packet answer) ≡ Some asked
       → IsAnswered defaults start before (Out packet answer)
-      → TakenBy (ep_calls defaults start (Out packet answer ∷ before)) (state_told (changes defaults (keymap defaults (image_after start before)) asked) works)
+      → TakenBy (ep_calls defaults start (Out packet answer ∷ before)) (state_reported (changes defaults (keymap defaults (image_after start before)) asked) works)
   unfolding ep_calls
   taken_at_packet start before packet answer asked s a =
       let by : Accepts before packet answer asked = accepted_by before packet answer asked s in
@@ -311,7 +311,7 @@ module _ (defaults : DefaultCodes) where
       (subst (λ (x : EpAnswer). OutAnswer defaults (out_step (stage_after defaults start before) packet) (image_after start before) (is_some (working defaults start before)) x) by.acknowledged a) in
       let due : IsTaking FeatureData (first_stall (calls_since calls)) (last_setup calls) (progress_of (calls_since calls)) =
       taking_is FeatureData (first_stall (calls_since calls)) (last_setup calls) (progress_of (calls_since calls)) (sym is.due ∙ stage-is calls) in
-      subst (λ (x : EpAnswer). TakenBy (with_out defaults (out_step (stage calls) packet) packet entries x calls) (state_told (changes defaults entries asked) works)) (sym by.acknowledged)
+      subst (λ (x : EpAnswer). TakenBy (with_out defaults (out_step (stage calls) packet) packet entries x calls) (state_reported (changes defaults entries asked) works)) (sym by.acknowledged)
       (taken_offered (out_step (stage calls) packet) packet (drop 1 packet) entries asked calls is.step by.reads due (untaken start before))
 
   taken_answered : (step : OutStep) (packet : List ℕ) (entries : ℕ → ℕ → ℕ) (answer answered : EpAnswer) (calls : List EpCall) (state : CommandState) → step ≡ Answered answered → TakenBy calls state
@@ -326,31 +326,31 @@ module _ (defaults : DefaultCodes) where
       let stalls = stalls_out (first_stall (calls_since calls)) state (list_any is_empty_in (calls_since calls)) packet in
       taken_answered (out_step (stage calls) packet) packet entries answer stalls.0 calls state (ap (λ (now : Stage). out_step now packet) (taken_stage calls state t) ∙ stalls.1) t
 
-  settled_state : (changing : Bool) (f : Fate) (image : List ℕ) → state_after (state_told changing f) Settled ≡ state_told changing (ended_by defaults (Worked Work.Settled image) f)
+  settled_state : (changing : Bool) (f : Fate) (image : List ℕ) → state_after (state_reported changing f) Settled ≡ state_reported changing (ended_by defaults (Worked Work.Settled image) f)
   settled_state false f image = refl
   settled_state true works image = refl
   settled_state true settled image = refl
   settled_state true failed image = refl
 
-  failed_state : (changing : Bool) (f : Fate) (image : List ℕ) → state_after (state_told changing f) Failed ≡ state_told changing (ended_by defaults (Worked Work.Failed image) f)
+  failed_state : (changing : Bool) (f : Fate) (image : List ℕ) → state_after (state_reported changing f) Failed ≡ state_reported changing (ended_by defaults (Worked Work.Failed image) f)
   failed_state false f image = refl
   failed_state true works image = refl
   failed_state true settled image = refl
   failed_state true failed image = refl
 
   -- a call of the same transfer
-  taken_more : (start : List ℕ) (past : List Call) (call : Call) (changing : Bool) (between : List Call) → SameTransfer (call ∷ between) → TakenBy (ep_calls defaults start past) (state_told changing (fate_after defaults between))
-      → TakenBy (ep_calls defaults start (call ∷ past)) (state_told changing (fate_after defaults (call ∷ between)))
+  taken_more : (start : List ℕ) (past : List Call) (call : Call) (changing : Bool) (between : List Call) → SameTransfer (call ∷ between) → TakenBy (ep_calls defaults start past) (state_reported changing (fate_after defaults between))
+      → TakenBy (ep_calls defaults start (call ∷ past)) (state_reported changing (fate_after defaults (call ∷ between)))
   unfolding ep_calls
   taken_more start past (Scanned scan) changing between same t = t
   taken_more start past (SetUp bytes) changing between same t = absurd same
-  taken_more start past (Out packet answer) changing between same t = taken_out packet (keymap defaults (image_after start past)) answer (ep_calls defaults start past) (state_told changing (fate_after defaults between)) t
+  taken_more start past (Out packet answer) changing between same t = taken_out packet (keymap defaults (image_after start past)) answer (ep_calls defaults start past) (state_reported changing (fate_after defaults between)) t
   taken_more start past (In answer) changing between same t = record { length = t.length; begins = t.begins; taken = t.taken; command = t.command }
   taken_more start past (Polled answer) changing between same t = t
   taken_more start past (Worked Work.Idle image) changing between same t =
-      with_state (ep_calls defaults start past) (state_told changing (fate_after defaults between)) (state_told changing (ended_by defaults (Worked Work.Idle image) (fate_after defaults between))) (ap (state_told changing) (sym (ended_by-idle defaults image (fate_after defaults between)))) t
+      with_state (ep_calls defaults start past) (state_reported changing (fate_after defaults between)) (state_reported changing (ended_by defaults (Worked Work.Idle image) (fate_after defaults between))) (ap (state_reported changing) (sym (ended_by-idle defaults image (fate_after defaults between)))) t
   taken_more start past (Worked Work.Working image) changing between same t =
-      with_state (ep_calls defaults start past) (state_told changing (fate_after defaults between)) (state_told changing (ended_by defaults (Worked Work.Working image) (fate_after defaults between))) (ap (state_told changing) (sym (ended_by-working defaults image (fate_after defaults between)))) t
+      with_state (ep_calls defaults start past) (state_reported changing (fate_after defaults between)) (state_reported changing (ended_by defaults (Worked Work.Working image) (fate_after defaults between))) (ap (state_reported changing) (sym (ended_by-working defaults image (fate_after defaults between)))) t
   taken_more start past (Worked Work.Settled image) changing between same t =
       record { length = t.length; begins = t.begins; taken = t.taken; command = ap (λ (x : CommandState). state_after x Settled) t.command ∙ settled_state changing (fate_after defaults between) image }
   taken_more start past (Worked Work.Failed image) changing between same t =
@@ -359,29 +359,29 @@ module _ (defaults : DefaultCodes) where
 
   taken_between : (start : List ℕ) (between before : List Call) (packet : List ℕ) (answer : EpAnswer) (asked : Command) → SameTransfer between → accepts before (Out packet answer) ≡ Some asked
       → IsAnswered defaults start before (Out packet answer)
-      → TakenBy (ep_calls defaults start (between ++ Out packet answer ∷ before)) (state_told (changes defaults (keymap defaults (image_after start before)) asked) (fate_after defaults between))
+      → TakenBy (ep_calls defaults start (between ++ Out packet answer ∷ before)) (state_reported (changes defaults (keymap defaults (image_after start before)) asked) (fate_after defaults between))
   taken_between start [] before packet answer asked same s a = taken_at_packet start before packet answer asked s a
   taken_between start (call ∷ between) before packet answer asked same s a =
       taken_more start (between ++ Out packet answer ∷ before) call (changes defaults (keymap defaults (image_after start before)) asked) between same
       (taken_between start between before packet answer asked (same_later call between same) s a)
 
-  told_settled : (start : List ℕ) (between before : List Call) (packet : List ℕ) (answer : EpAnswer) (asked : Command) → SameTransfer between → accepts before (Out packet answer) ≡ Some asked
+  reported_settled : (start : List ℕ) (between before : List Call) (packet : List ℕ) (answer : EpAnswer) (asked : Command) → SameTransfer between → accepts before (Out packet answer) ≡ Some asked
       → IsAnswered defaults start before (Out packet answer) → Packet (record { items = [] }) ≡ in_answer (stage_after defaults start (between ++ Out packet answer ∷ before))
       → fate defaults (keymap defaults (image_after start before)) asked between ≡ settled
-  told_settled start between before packet answer asked same s a e =
+  reported_settled start between before packet answer asked same s a e =
       let changing : Bool = changes defaults (keymap defaults (image_after start before)) asked in
       let calls : List EpCall = ep_calls defaults start (between ++ Out packet answer ∷ before) in
-      let state : CommandState = state_told changing (fate_after defaults between) in
+      let state : CommandState = state_reported changing (fate_after defaults between) in
       let t : TakenBy calls state = taken_between start between before packet answer asked same s a in
       let ended = ended_state (first_stall (calls_since calls)) state (list_any is_empty_in (calls_since calls)) (e ∙ ap in_answer (taken_stage calls state t)) in
       settled_fate changing (fate_after defaults between) ended.0 ended.1
 
   -- so it is stored
-  told_stored : (start : List ℕ) (between before past : List Call) (layer key code : ℕ) (asked : Command) → fate defaults (keymap defaults (image_after start before)) asked between ≡ settled
-      → Told start past before between layer key code asked → Stored start past layer key code
-  told_stored start between before past layer key code asked done (is_stored s) = s
-  told_stored start between before past layer key code asked done (waits f w) = absurd (settled_not_works (fate defaults (keymap defaults (image_after start before)) asked between) f done)
-  told_stored start between before past layer key code asked done (has_failed f) = absurd (settled_not_failed (fate defaults (keymap defaults (image_after start before)) asked between) f done)
+  reported_stored : (start : List ℕ) (between before past : List Call) (layer key code : ℕ) (asked : Command) → fate defaults (keymap defaults (image_after start before)) asked between ≡ settled
+      → Reported start past before between layer key code asked → Stored start past layer key code
+  reported_stored start between before past layer key code asked done (is_stored s) = s
+  reported_stored start between before past layer key code asked done (waits f w) = absurd (settled_not_works (fate defaults (keymap defaults (image_after start before)) asked between) f done)
+  reported_stored start between before past layer key code asked done (has_failed f) = absurd (settled_not_failed (fate defaults (keymap defaults (image_after start before)) asked between) f done)
 
   NoneAcceptedWrites-later : (later earlier past : List Call) (layer key : ℕ) → NoneAcceptedWrites defaults (later ++ earlier) past layer key → NoneAcceptedWrites defaults earlier past layer key
   NoneAcceptedWrites-later [] earlier past layer key n = n
@@ -398,25 +398,25 @@ module _ (defaults : DefaultCodes) where
   settled_here start between before call asked same s h e =
       let o : IsOut call = accepts_out before call asked s in
       let here : EachCall (IsAnswered defaults) start (call ∷ before) = EachCall-later (IsAnswered defaults) start between (call ∷ before) h in
-      told_settled start between before o.packet o.answer asked same (subst (λ (c : Call). accepts before c ≡ Some asked) o.is s)
+      reported_settled start between before o.packet o.answer asked same (subst (λ (c : Call). accepts before c ≡ Some asked) o.is s)
       (subst (λ (c : Call). IsAnswered defaults start before c) o.is here.0)
       (subst (λ (c : Call). Packet (record { items = [] }) ≡ in_answer (stage_after defaults start (between ++ c ∷ before))) o.is e)
 
   -- what was acknowledged is what the flash says
   pub acknowledged : (start : List ℕ) (past : List Call) → EachCall (IsAnswered defaults) start past → KeepsAcknowledged defaults start past
   acknowledged start past h layer key code a =
-      let told : Call = In (Packet (record { items = [] })) in
+      let reported : Call = In (Packet (record { items = [] })) in
       let rest : List Call = a.between ++ a.packet ∷ a.before in
-      let is : past ≡ a.after ++ told ∷ rest = a.past_is ∙ append_assoc a.after (told ∷ a.between) (a.packet ∷ a.before) in
-      let all : EachCall (IsAnswered defaults) start (a.after ++ told ∷ rest) = subst (λ (xs : List Call). EachCall (IsAnswered defaults) start xs) is h in
-      let here : EachCall (IsAnswered defaults) start (told ∷ rest) = EachCall-later (IsAnswered defaults) start a.after (told ∷ rest) all in
-      let writes : NoneAcceptedWrites defaults (told ∷ a.between) (a.packet ∷ a.before) layer key = NoneAcceptedWrites-later a.after (told ∷ a.between) (a.packet ∷ a.before) layer key a.not_since in
+      let is : past ≡ a.after ++ reported ∷ rest = a.past_is ∙ append_assoc a.after (reported ∷ a.between) (a.packet ∷ a.before) in
+      let all : EachCall (IsAnswered defaults) start (a.after ++ reported ∷ rest) = subst (λ (xs : List Call). EachCall (IsAnswered defaults) start xs) is h in
+      let here : EachCall (IsAnswered defaults) start (reported ∷ rest) = EachCall-later (IsAnswered defaults) start a.after (reported ∷ rest) all in
+      let writes : NoneAcceptedWrites defaults (reported ∷ a.between) (a.packet ∷ a.before) layer key = NoneAcceptedWrites-later a.after (reported ∷ a.between) (a.packet ∷ a.before) layer key a.not_since in
       let there : Stored start rest layer key code =
-      told_stored start a.between a.before rest layer key code a.command
+      reported_stored start a.between a.before rest layer key code a.command
       (settled_here start a.between a.before a.packet a.command a.same_transfer a.accepted here.1 here.0)
-      (told_between start a.between a.before a.packet layer key code a.command a.in_layers a.in_keys a.writes here.1 writes.1 a.accepted) in
-      let now : Stored start (told ∷ rest) layer key code =
-      stored_more start rest told layer key code a.in_layers a.in_keys (orderly defaults start rest here.1) (effect defaults start rest told here.0) writes.0 there in
-      let after : Stored start (a.after ++ told ∷ rest) layer key code =
-      stored start a.after (told ∷ rest) layer key code a.in_layers a.in_keys all (NoneAcceptedWrites-sooner a.after (told ∷ a.between) (a.packet ∷ a.before) layer key a.not_since) now in
+      (reported_between start a.between a.before a.packet layer key code a.command a.in_layers a.in_keys a.writes here.1 writes.1 a.accepted) in
+      let now : Stored start (reported ∷ rest) layer key code =
+      stored_more start rest reported layer key code a.in_layers a.in_keys (orderly defaults start rest here.1) (effect defaults start rest reported here.0) writes.0 there in
+      let after : Stored start (a.after ++ reported ∷ rest) layer key code =
+      stored start a.after (reported ∷ rest) layer key code a.in_layers a.in_keys all (NoneAcceptedWrites-sooner a.after (reported ∷ a.between) (a.packet ∷ a.before) layer key a.not_since) now in
       subst (λ (xs : List Call). keymap defaults (image_after start xs) layer key ≡ code) (sym is) after.entry_is

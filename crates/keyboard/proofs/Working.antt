@@ -22,16 +22,16 @@ use Rattle.keymap_store.specs.Keymap.{SameEntries}
 use Rattle.keymap_store.specs.Left.{left, Needs}
 use Rattle.keymap_store.specs.Next.{next_operation_of}
 use Rattle.keymap_store.specs.Operations.{operations_of}
-use Rattle.keymap_store.specs.ties.Rest.{rest_of}
+use Rattle.keymap_store.specs.representation.Rest.{rest_of}
 use Rattle.keymap_store.specs.Store.{working as working_in}
-use Rattle.keymap_store.specs.ties.Store.{Mirrors}
+use Rattle.keymap_store.specs.representation.Store.{Mirrors}
 use Rattle.keymap_store.specs.Value.{StoreValue}
 use Rattle.keymap_store.specs.Works.{WorksAs, IsAppendedFor}
 use Rattle.keymap_store.proofs.Cutting.{cut_leaves}
 use Rattle.keymap_store.proofs.Ordering.{needs_all, needed_once, next_is_first}
 use Rattle.control_ep.specs.Calls.{Settle, Fail}
 use Rattle.control_ep.specs.Transfers.{Stage}
-use Rattle.control_ep.specs.ties.Stands as control_ep
+use Rattle.control_ep.specs.representation.Relation as control_ep
 use Rattle.keyboard.specs.Calls.{Call, Worked, image_after, keymap, EachCall}
 use Rattle.keyboard.specs.Effects.{leds_after, selected, protocol_after}
 use Rattle.keyboard.specs.Keys.{key_calls}
@@ -39,12 +39,12 @@ use Rattle.keyboard.specs.Commands.{accepts, working}
 use Rattle.keyboard.specs.Endpoint.{ep_calls}
 use Rattle.keyboard.specs.Bounded.{most_steps, steps_since, accepted_image}
 use Rattle.keyboard.specs.Operated.{Works, ComesTo, Advances, IsCutShort}
-use Rattle.keyboard.specs.Lawful.{WorkedOn, IsAnswered, MakesSuch}
-use Rattle.keyboard.specs.ties.Private.{Operating}
+use Rattle.keyboard.specs.Conforming.{WorkedOn, IsAnswered, MakesSuch}
+use Rattle.keyboard.specs.representation.Private.{Operating}
 use Rattle.keyboard.specs.Restart.{RestartsLegally, CutsLegally}
 use Rattle.keyboard.proofs.Restarting.{restarts_with, restarts_without}
-use Rattle.keyboard.specs.ties.Value.{KeyboardValue, at_work}
-use Rattle.keyboard.specs.ties.Stands.{StandsFor}
+use Rattle.keyboard.specs.representation.Value.{KeyboardValue, at_work}
+use Rattle.keyboard.specs.representation.Relation.{Refines}
 use Rattle.keyboard.proofs.Accepting.{ended_by-idle, ended_by-working}
 use Rattle.keyboard.proofs.Bounding.{needs_more, steps_since-more, nothing_left, accepted_image-same, nothing_needed, none_works}
 use Rattle.keyboard.proofs.Effects.{accepts-work}
@@ -130,7 +130,7 @@ module _ (defaults : DefaultCodes) where
   not_idle command image store Failed after new w a e = cc
 
   -- which step of its command it is
-  advances : (start : List ℕ) (before : List Call) (command : Command) (old : KeyboardValue) (operation : Operation) (work : WorkAnswer) (after : List ℕ) (new : StoreValue) → StandsFor defaults start before old
+  advances : (start : List ℕ) (before : List Call) (command : Command) (old : KeyboardValue) (operation : Operation) (work : WorkAnswer) (after : List ℕ) (new : StoreValue) → Refines defaults start before old
       → Operating defaults (image_after start before) old.store work after new → at_work old ≡ Some command → next_operation_of defaults (image_after start before) old.store ≡ Some operation → (work ≡ Working → IsSome (working_in new.job))
       → Advances defaults (accepted_image start before) (steps_since before) command (image_after start before) operation work after
   advances start before command old operation work after new s o v n on =
@@ -184,7 +184,7 @@ module _ (defaults : DefaultCodes) where
     step : Works defaults start before command (image_after start before) work after
     operation_is : step.operation ≡ operation
 
-  works_of : (operation : Operation) (start : List ℕ) (before : List Call) (command : Command) (old : KeyboardValue) (work : WorkAnswer) (after : List ℕ) (new : StoreValue) → next_operation_of defaults (image_after start before) old.store ≡ Some operation → StandsFor defaults start before old
+  works_of : (operation : Operation) (start : List ℕ) (before : List Call) (command : Command) (old : KeyboardValue) (work : WorkAnswer) (after : List ℕ) (new : StoreValue) → next_operation_of defaults (image_after start before) old.store ≡ Some operation → Refines defaults start before old
       → Operating defaults (image_after start before) old.store work after new → at_work old ≡ Some command → work ≢ Idle → Attempts (image_after start before) operation (work ≡ Idle) (work ≡ Failed) after → WorksBy start before command work after operation
   works_of operation start before command old work after new n s o v some a =
       let image : List ℕ = image_after start before in
@@ -206,13 +206,13 @@ module _ (defaults : DefaultCodes) where
       }
 
   -- by the operation that is next
-  works_by : (next : Option Operation) (start : List ℕ) (before : List Call) (command : Command) (old : KeyboardValue) (work : WorkAnswer) (after : List ℕ) (new : StoreValue) → next_operation_of defaults (image_after start before) old.store ≡ next → StandsFor defaults start before old
+  works_by : (next : Option Operation) (start : List ℕ) (before : List Call) (command : Command) (old : KeyboardValue) (work : WorkAnswer) (after : List ℕ) (new : StoreValue) → next_operation_of defaults (image_after start before) old.store ≡ next → Refines defaults start before old
       → Operating defaults (image_after start before) old.store work after new → at_work old ≡ Some command → work ≢ Idle → AttemptsNext next (image_after start before) (work ≡ Idle) (work ≡ Failed) after → Works defaults start before command (image_after start before) work after
   works_by None start before command old work after new n s o v some (idle, same) = absurd (some idle)
   works_by (Some operation) start before command old work after new n s o v some a = (works_of operation start before command old work after new n s o v some a).step
 
   -- what holds of the operation that is next holds of the step's
-  such_by : (next : Option Operation) (start : List ℕ) (before : List Call) (command : Command) (old : KeyboardValue) (work : WorkAnswer) (after : List ℕ) (new : StoreValue) (such : Operation → Type 0) → next_operation_of defaults (image_after start before) old.store ≡ next → StandsFor defaults start before old
+  such_by : (next : Option Operation) (start : List ℕ) (before : List Call) (command : Command) (old : KeyboardValue) (work : WorkAnswer) (after : List ℕ) (new : StoreValue) (such : Operation → Type 0) → next_operation_of defaults (image_after start before) old.store ≡ next → Refines defaults start before old
       → Operating defaults (image_after start before) old.store work after new → working defaults start before ≡ Some command → work ≢ Idle → AttemptsNext next (image_after start before) (work ≡ Idle) (work ≡ Failed) after
       → ((operation : Operation) → next_operation_of defaults (image_after start before) old.store ≡ Some operation → such operation) → MakesSuch defaults start before work after such
   such_by None start before command old work after new such n s o w some (idle, same) h = absurd (some idle)
@@ -220,7 +220,7 @@ module _ (defaults : DefaultCodes) where
       let by : WorksBy start before command work after operation = works_of operation start before command old work after new n s o (s.now.works ∙ w) some a in
       record { command = command; works_on = w; step = by.step; is_such = subst such (sym by.operation_is) (h operation n) }
 
-  works : (start : List ℕ) (before : List Call) (command : Command) (old : KeyboardValue) (work : WorkAnswer) (after : List ℕ) (new : StoreValue) → StandsFor defaults start before old
+  works : (start : List ℕ) (before : List Call) (command : Command) (old : KeyboardValue) (work : WorkAnswer) (after : List ℕ) (new : StoreValue) → Refines defaults start before old
       → Operating defaults (image_after start before) old.store work after new → at_work old ≡ Some command → Works defaults start before command (image_after start before) work after
   works start before command old work after new s o v =
       works_by (next_operation_of defaults (image_after start before) old.store) start before command old work after new refl s o v (not_idle command (image_after start before) old.store work after new v o.leaves.works) o.leaves.attempts
@@ -231,38 +231,38 @@ module _ (defaults : DefaultCodes) where
   idle_same image store Settled after new n a = absurd (not_some (working_in store.job) a.command n a.was)
   idle_same image store Failed after new n a = absurd (not_both (working_in store.job) a.some n)
 
-  worked_by : (start : List ℕ) (before : List Call) (w : Option Command) (old : KeyboardValue) (work : WorkAnswer) (after : List ℕ) (new : StoreValue) → StandsFor defaults start before old
+  worked_by : (start : List ℕ) (before : List Call) (w : Option Command) (old : KeyboardValue) (work : WorkAnswer) (after : List ℕ) (new : StoreValue) → Refines defaults start before old
       → Operating defaults (image_after start before) old.store work after new → at_work old ≡ w → WorkedOn defaults start before w work after
   worked_by start before None old work after new s o v = idle_same (image_after start before) old.store work after new v o.leaves.works
   worked_by start before (Some command) old work after new s o v = works start before command old work after new s o v
 
-  -- what a step of the flash work makes of the flash is lawful
-  pub worked_on : (start : List ℕ) (before : List Call) (old : KeyboardValue) (work : WorkAnswer) (after : List ℕ) (new : StoreValue) → StandsFor defaults start before old
+  -- what a step of the flash work makes of the flash is conforming
+  pub worked_on : (start : List ℕ) (before : List Call) (old : KeyboardValue) (work : WorkAnswer) (after : List ℕ) (new : StoreValue) → Refines defaults start before old
       → Operating defaults (image_after start before) old.store work after new → IsAnswered defaults start before (Worked work after)
   worked_on start before old work after new s o = worked_by start before (working defaults start before) old work after new s o s.now.works
 
-  such_in : (start : List ℕ) (before : List Call) (w : Option Command) (old : KeyboardValue) (work : WorkAnswer) (after : List ℕ) (new : StoreValue) (such : Operation → Type 0) → StandsFor defaults start before old
+  such_in : (start : List ℕ) (before : List Call) (w : Option Command) (old : KeyboardValue) (work : WorkAnswer) (after : List ℕ) (new : StoreValue) (such : Operation → Type 0) → Refines defaults start before old
       → Operating defaults (image_after start before) old.store work after new → working defaults start before ≡ w → work ≢ Idle
       → ((operation : Operation) → next_operation_of defaults (image_after start before) old.store ≡ Some operation → such operation) → MakesSuch defaults start before work after such
   such_in start before None old work after new such s o w some h = absurd (some (idle_same (image_after start before) old.store work after new (s.now.works ∙ w) o.leaves.works).0)
   such_in start before (Some command) old work after new such s o w some h = such_by (next_operation_of defaults (image_after start before) old.store) start before command old work after new such refl s o w some o.leaves.attempts h
 
   -- the operation of a step of the flash work is the one that the store asks for
-  pub makes_such : (start : List ℕ) (before : List Call) (old : KeyboardValue) (work : WorkAnswer) (after : List ℕ) (new : StoreValue) (such : Operation → Type 0) → StandsFor defaults start before old
+  pub makes_such : (start : List ℕ) (before : List Call) (old : KeyboardValue) (work : WorkAnswer) (after : List ℕ) (new : StoreValue) (such : Operation → Type 0) → Refines defaults start before old
       → Operating defaults (image_after start before) old.store work after new → work ≢ Idle
       → ((operation : Operation) → next_operation_of defaults (image_after start before) old.store ≡ Some operation → such operation) → MakesSuch defaults start before work after such
   makes_such start before old work after new such s o some h = such_in start before (working defaults start before) old work after new such s o refl some h
 
   -- the keyboard after it, once it is known which command works
-  stands_after : (start : List ℕ) (before : List Call) (work : WorkAnswer) (after : List ℕ) (ep : Stage) (new : StoreValue) (old : KeyboardValue) → StandsFor defaults start before old
-      → Operating defaults (image_after start before) old.store work after new → control_ep.StandsFor (ep_calls defaults start (Worked work after ∷ before)) ep
+  refines_after : (start : List ℕ) (before : List Call) (work : WorkAnswer) (after : List ℕ) (ep : Stage) (new : StoreValue) (old : KeyboardValue) → Refines defaults start before old
+      → Operating defaults (image_after start before) old.store work after new → control_ep.Refines (ep_calls defaults start (Worked work after ∷ before)) ep
       → working_in new.job ≡ working defaults start (Worked work after ∷ before)
       → (IsSome (working_in new.job) → left defaults after new + steps_since (Worked work after ∷ before) ≤ most_steps)
       → (IsSome (working_in new.job) → Needs defaults (accepted_image start (Worked work after ∷ before)) (left defaults after new + steps_since (Worked work after ∷ before)))
       → ((command : Command) → working_in new.job ≡ Some command → drop (steps_since (Worked work after ∷ before)) (operations_of defaults (accepted_image start (Worked work after ∷ before)) command) ≡ rest_of defaults after new)
-      → StandsFor defaults start (Worked work after ∷ before) (record old { ep = ep; store = new })
+      → Refines defaults start (Worked work after ∷ before) (record old { ep = ep; store = new })
   unfolding key_calls leds_after selected protocol_after accepts
-  stands_after start before work after ep new old s o e works few needs order = record {
+  refines_after start before work after ep new old s o e works few needs order = record {
     now = record {
       ep = e;
       keys = s.now.keys;
@@ -280,27 +280,27 @@ module _ (defaults : DefaultCodes) where
   }
 
   -- where none works later
-  rests_after : (start : List ℕ) (before : List Call) (work : WorkAnswer) (after : List ℕ) (ep : Stage) (new : StoreValue) (old : KeyboardValue) → StandsFor defaults start before old
-      → Operating defaults (image_after start before) old.store work after new → control_ep.StandsFor (ep_calls defaults start (Worked work after ∷ before)) ep
-      → working_in new.job ≡ None → After defaults start before (Worked work after) None → StandsFor defaults start (Worked work after ∷ before) (record old { ep = ep; store = new })
+  rests_after : (start : List ℕ) (before : List Call) (work : WorkAnswer) (after : List ℕ) (ep : Stage) (new : StoreValue) (old : KeyboardValue) → Refines defaults start before old
+      → Operating defaults (image_after start before) old.store work after new → control_ep.Refines (ep_calls defaults start (Worked work after ∷ before)) ep
+      → working_in new.job ≡ None → After defaults start before (Worked work after) None → Refines defaults start (Worked work after ∷ before) (record old { ep = ep; store = new })
   rests_after start before work after ep new old s o e rests later =
-      stands_after start before work after ep new old s o e (rests ∙ sym (working_after defaults start before (Worked work after) None later))
+      refines_after start before work after ep new old s o e (rests ∙ sym (working_after defaults start before (Worked work after) None later))
       (λ x. nothing_left (working_in new.job) (left defaults after new + steps_since (Worked work after ∷ before)) rests x)
       (λ x. nothing_needed (working_in new.job) (Needs defaults (accepted_image start (Worked work after ∷ before)) (left defaults after new + steps_since (Worked work after ∷ before))) rests x)
       (λ command x. none_works (working_in new.job) command (drop (steps_since (Worked work after ∷ before)) (operations_of defaults (accepted_image start (Worked work after ∷ before)) command) ≡ rest_of defaults after new) rests x)
 
   -- where the command works on
-  works_on : (start : List ℕ) (before : List Call) (command : Command) (after : List ℕ) (ep : Stage) (new : StoreValue) (old : KeyboardValue) → StandsFor defaults start before old
-      → Operating defaults (image_after start before) old.store Working after new → control_ep.StandsFor (ep_calls defaults start (Worked Working after ∷ before)) ep
+  works_on : (start : List ℕ) (before : List Call) (command : Command) (after : List ℕ) (ep : Stage) (new : StoreValue) (old : KeyboardValue) → Refines defaults start before old
+      → Operating defaults (image_after start before) old.store Working after new → control_ep.Refines (ep_calls defaults start (Worked Working after ∷ before)) ep
       → at_work old ≡ Some command → working_in new.job ≡ Some command → After defaults start before (Worked Working after) (Some command)
-      → StandsFor defaults start (Worked Working after ∷ before) (record old { ep = ep; store = new })
+      → Refines defaults start (Worked Working after ∷ before) (record old { ep = ep; store = new })
   works_on start before command after ep new old s o e v w later =
       let call : Call = Worked Working after in
       let none : accepts before call ≡ None = accepts-work before Working after in
       let there : IsSome (at_work old) = rw v refl in
       let count : steps_since (call ∷ before) ≡ suc (steps_since before) = steps_since-more call before (λ n. refl) none in
       let sums : left defaults (image_after start before) old.store + steps_since before ≡ left defaults after new + steps_since (call ∷ before) = omega (arith, o.down.fewer refl, count) in
-      stands_after start before Working after ep new old s o e (w ∙ sym (working_after defaults start before call (Some command) later))
+      refines_after start before Working after ep new old s o e (w ∙ sym (working_after defaults start before call (Some command) later))
       (λ x. subst (λ (n : ℕ). n ≤ most_steps) sums (s.now.few there))
       (λ x. subst (λ (image : List ℕ). Needs defaults image (left defaults after new + steps_since (call ∷ before))) (sym (accepted_image-same start call before none))
       (subst (λ (n : ℕ). Needs defaults (accepted_image start before) n) sums (s.now.needs there)))
@@ -309,10 +309,10 @@ module _ (defaults : DefaultCodes) where
       let was : drop (steps_since before) list ≡ rest_of defaults (image_after start before) old.store = s.now.order other (rw same v) in
       rw (count, accepted_image-same start call before none) (one_less list (steps_since before) ∙ ap (λ (left : List Operation). drop 1 left) was ∙ sym (o.order.goes_on refl))))
 
-  ended : (start : List ℕ) (before : List Call) (command : Command) (work : WorkAnswer) (after : List ℕ) (ep : Stage) (new : StoreValue) (old : KeyboardValue) → StandsFor defaults start before old
-      → Operating defaults (image_after start before) old.store work after new → control_ep.StandsFor (ep_calls defaults start (Worked work after ∷ before)) ep
+  ended : (start : List ℕ) (before : List Call) (command : Command) (work : WorkAnswer) (after : List ℕ) (ep : Stage) (new : StoreValue) (old : KeyboardValue) → Refines defaults start before old
+      → Operating defaults (image_after start before) old.store work after new → control_ep.Refines (ep_calls defaults start (Worked work after ∷ before)) ep
       → at_work old ≡ Some command → ComesTo defaults command (image_after start before) work after → WorksAs defaults (image_after start before) old.store work after new
-      → StandsFor defaults start (Worked work after ∷ before) (record old { ep = ep; store = new })
+      → Refines defaults start (Worked work after ∷ before) (record old { ep = ep; store = new })
   ended start before command Idle after ep new old s o e v c a = absurd c
   ended start before command Settled after ep new old s o e v c a =
       rests_after start before Settled after ep new old s o e a.done
@@ -327,10 +327,10 @@ module _ (defaults : DefaultCodes) where
       works_on start before command after ep new old s o e v (a.same_command ∙ v)
       (subst (λ (w : Option Command). After defaults start before (Worked Working after) w) was later)
 
-  idled : (start : List ℕ) (before : List Call) (work : WorkAnswer) (after : List ℕ) (ep : Stage) (new : StoreValue) (old : KeyboardValue) → StandsFor defaults start before old
-      → Operating defaults (image_after start before) old.store work after new → control_ep.StandsFor (ep_calls defaults start (Worked work after ∷ before)) ep
+  idled : (start : List ℕ) (before : List Call) (work : WorkAnswer) (after : List ℕ) (ep : Stage) (new : StoreValue) (old : KeyboardValue) → Refines defaults start before old
+      → Operating defaults (image_after start before) old.store work after new → control_ep.Refines (ep_calls defaults start (Worked work after ∷ before)) ep
       → at_work old ≡ None → work ≡ Idle → after ≡ image_after start before → WorksAs defaults (image_after start before) old.store work after new
-      → StandsFor defaults start (Worked work after ∷ before) (record old { ep = ep; store = new })
+      → Refines defaults start (Worked work after ∷ before) (record old { ep = ep; store = new })
   idled start before Working after ep new old s o e v i f a = cc
   idled start before Settled after ep new old s o e v i f a = cc
   idled start before Failed after ep new old s o e v i f a = cc
@@ -342,45 +342,45 @@ module _ (defaults : DefaultCodes) where
       rests_after start before Idle after ep new old s o e (ap (λ (x : StoreValue). working_in x.job) a.same_store ∙ v)
       (subst (λ (w : Option Command). After defaults start before (Worked Idle after) w) was later)
 
-  worked_stands : (start : List ℕ) (before : List Call) (work : WorkAnswer) (w : Option Command) (after : List ℕ) (ep : Stage) (new : StoreValue) (old : KeyboardValue) → StandsFor defaults start before old
-      → Operating defaults (image_after start before) old.store work after new → control_ep.StandsFor (ep_calls defaults start (Worked work after ∷ before)) ep
-      → at_work old ≡ w → WorkedOn defaults start before w work after → StandsFor defaults start (Worked work after ∷ before) (record old { ep = ep; store = new })
-  worked_stands start before work None after ep new old s o e v (idle, same) = idled start before work after ep new old s o e v idle same o.leaves.works
-  worked_stands start before work (Some command) after ep new old s o e v on = ended start before command work after ep new old s o e v on.outcome o.leaves.works
+  worked_refines : (start : List ℕ) (before : List Call) (work : WorkAnswer) (w : Option Command) (after : List ℕ) (ep : Stage) (new : StoreValue) (old : KeyboardValue) → Refines defaults start before old
+      → Operating defaults (image_after start before) old.store work after new → control_ep.Refines (ep_calls defaults start (Worked work after ∷ before)) ep
+      → at_work old ≡ w → WorkedOn defaults start before w work after → Refines defaults start (Worked work after ∷ before) (record old { ep = ep; store = new })
+  worked_refines start before work None after ep new old s o e v (idle, same) = idled start before work after ep new old s o e v idle same o.leaves.works
+  worked_refines start before work (Some command) after ep new old s o e v on = ended start before command work after ep new old s o e v on.outcome o.leaves.works
 
-  stands_worked : (start : List ℕ) (before : List Call) (work : WorkAnswer) (after : List ℕ) (ep : Stage) (new : StoreValue) (old : KeyboardValue) → StandsFor defaults start before old
-      → Operating defaults (image_after start before) old.store work after new → control_ep.StandsFor (ep_calls defaults start (Worked work after ∷ before)) ep
-      → StandsFor defaults start (Worked work after ∷ before) (record old { ep = ep; store = new })
-  stands_worked start before work after ep new old s o e =
-      worked_stands start before work (at_work old) after ep new old s o e refl (worked_by start before (at_work old) old work after new s o refl)
+  refines_worked : (start : List ℕ) (before : List Call) (work : WorkAnswer) (after : List ℕ) (ep : Stage) (new : StoreValue) (old : KeyboardValue) → Refines defaults start before old
+      → Operating defaults (image_after start before) old.store work after new → control_ep.Refines (ep_calls defaults start (Worked work after ∷ before)) ep
+      → Refines defaults start (Worked work after ∷ before) (record old { ep = ep; store = new })
+  refines_worked start before work after ep new old s o e =
+      worked_refines start before work (at_work old) after ep new old s o e refl (worked_by start before (at_work old) old work after new s o refl)
 
   -- a step that settles the command, one that fails it, and others
-  pub stands_settled : (start : List ℕ) (before : List Call) (after : List ℕ) (ep : Stage) (new : StoreValue) (old : KeyboardValue) → StandsFor defaults start before old
-      → Operating defaults (image_after start before) old.store Settled after new → control_ep.StandsFor (Settle ∷ ep_calls defaults start before) ep
-      → StandsFor defaults start (Worked Settled after ∷ before) (record old { ep = ep; store = new })
+  pub refines_settled : (start : List ℕ) (before : List Call) (after : List ℕ) (ep : Stage) (new : StoreValue) (old : KeyboardValue) → Refines defaults start before old
+      → Operating defaults (image_after start before) old.store Settled after new → control_ep.Refines (Settle ∷ ep_calls defaults start before) ep
+      → Refines defaults start (Worked Settled after ∷ before) (record old { ep = ep; store = new })
   unfolding ep_calls
-  stands_settled start before after ep new old s o e = stands_worked start before Settled after ep new old s o e
+  refines_settled start before after ep new old s o e = refines_worked start before Settled after ep new old s o e
 
-  pub stands_failed : (start : List ℕ) (before : List Call) (after : List ℕ) (ep : Stage) (new : StoreValue) (old : KeyboardValue) → StandsFor defaults start before old
-      → Operating defaults (image_after start before) old.store Failed after new → control_ep.StandsFor (Fail ∷ ep_calls defaults start before) ep
-      → StandsFor defaults start (Worked Failed after ∷ before) (record old { ep = ep; store = new })
+  pub refines_failed : (start : List ℕ) (before : List Call) (after : List ℕ) (ep : Stage) (new : StoreValue) (old : KeyboardValue) → Refines defaults start before old
+      → Operating defaults (image_after start before) old.store Failed after new → control_ep.Refines (Fail ∷ ep_calls defaults start before) ep
+      → Refines defaults start (Worked Failed after ∷ before) (record old { ep = ep; store = new })
   unfolding ep_calls
-  stands_failed start before after ep new old s o e = stands_worked start before Failed after ep new old s o e
+  refines_failed start before after ep new old s o e = refines_worked start before Failed after ep new old s o e
 
-  pub stands_working : (start : List ℕ) (before : List Call) (after : List ℕ) (new : StoreValue) (old : KeyboardValue) → StandsFor defaults start before old
-      → Operating defaults (image_after start before) old.store Working after new → StandsFor defaults start (Worked Working after ∷ before) (record old { store = new })
+  pub refines_working : (start : List ℕ) (before : List Call) (after : List ℕ) (new : StoreValue) (old : KeyboardValue) → Refines defaults start before old
+      → Operating defaults (image_after start before) old.store Working after new → Refines defaults start (Worked Working after ∷ before) (record old { store = new })
   unfolding ep_calls
-  stands_working start before after new old s o = stands_worked start before Working after old.ep new old s o s.now.ep
+  refines_working start before after new old s o = refines_worked start before Working after old.ep new old s o s.now.ep
 
-  pub stands_idle : (start : List ℕ) (before : List Call) (after : List ℕ) (new : StoreValue) (old : KeyboardValue) → StandsFor defaults start before old
-      → Operating defaults (image_after start before) old.store Idle after new → StandsFor defaults start (Worked Idle after ∷ before) (record old { store = new })
+  pub refines_idle : (start : List ℕ) (before : List Call) (after : List ℕ) (new : StoreValue) (old : KeyboardValue) → Refines defaults start before old
+      → Operating defaults (image_after start before) old.store Idle after new → Refines defaults start (Worked Idle after ∷ before) (record old { store = new })
   unfolding ep_calls
-  stands_idle start before after new old s o = stands_worked start before Idle after old.ep new old s o s.now.ep
+  refines_idle start before after new old s o = refines_worked start before Idle after old.ep new old s o s.now.ep
 
-  pub stands_other : (start : List ℕ) (before : List Call) (work : WorkAnswer) (after : List ℕ) (new : StoreValue) (old : KeyboardValue) → StandsFor defaults start before old
-      → Operating defaults (image_after start before) old.store work after new → (work ≡ Idle) ⊎ (work ≡ Working) → StandsFor defaults start (Worked work after ∷ before) (record old { store = new })
-  stands_other start before work after new old s o (inl i) = rw i (stands_idle start before after new old s (rw i at o))
-  stands_other start before work after new old s o (inr w) = rw w (stands_working start before after new old s (rw w at o))
+  pub refines_other : (start : List ℕ) (before : List Call) (work : WorkAnswer) (after : List ℕ) (new : StoreValue) (old : KeyboardValue) → Refines defaults start before old
+      → Operating defaults (image_after start before) old.store work after new → (work ≡ Idle) ⊎ (work ≡ Working) → Refines defaults start (Worked work after ∷ before) (record old { store = new })
+  refines_other start before work after new old s o (inl i) = rw i (refines_idle start before after new old s (rw i at o))
+  refines_other start before work after new old s o (inr w) = rw w (refines_working start before after new old s (rw w at o))
 
   -- the store works on the image that these calls left
   pub operating_on : (here image : List ℕ) (store : StoreValue) (work : WorkAnswer) (after : List ℕ) (new : StoreValue) → here ≡ image → Operating defaults image store work after new → Operating defaults here store work after new

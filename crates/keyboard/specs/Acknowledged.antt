@@ -1,4 +1,4 @@
--- Believed: what the host was told is stored.
+-- Trusted: what the host was told is stored.
 use Rattle.shapes.specs.Shapes.{Bytes}
 use Rattle.std.specs.Prelude.{◌≡◌, ℕ, ◌<◌, Option, None, Some, List, [], ◌∷◌, ◌++◌}
 use Rattle.layers.specs.Codes.{layers, keys, DefaultCodes}

@@ -1,4 +1,4 @@
--- Believed: how many steps of the flash work a command takes.
+-- Trusted: how many steps of the flash work a command takes.
 use Rattle.shapes.specs.Shapes.{Bytes}
 use Rattle.std.specs.Prelude.{ℕ, suc, ◌≤◌, IsSome, Option, Some, None, List, [], ◌∷◌}
 use Rattle.layers.specs.Codes.{DefaultCodes}

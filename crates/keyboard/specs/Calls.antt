@@ -1,4 +1,4 @@
--- Believed: what a keyboard was asked since its start, and what it answered.
+-- Trusted: what a keyboard was asked since its start, and what it answered.
 use Rattle.shapes.specs.Shapes.{Bytes}
 use Rattle.std.specs.Prelude.{ℕ, Option, None, Some, List, [], ◌∷◌}
 use Rattle.debounce.specs.declared.Scan.{Scan}

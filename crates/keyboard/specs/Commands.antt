@@ -1,4 +1,4 @@
--- Believed: the commands of a session: which were accepted, in order, and what has become of each.
+-- Trusted: the commands of a session: which were accepted, in order, and what has become of each.
 use Rattle.shapes.specs.Shapes.{Bytes}
 use Rattle.std.specs.Prelude.{ℕ, Option, None, Some, List, [], ◌∷◌, ◌++◌, drop, map}
 use Rattle.std.specs.Option.{option_or, option_and_then}
@@ -8,7 +8,7 @@ use Rattle.layers.specs.declared.command.Command.{Command}
 use Rattle.control_ep.specs.Transfers.{HostReport, FeatureData}
 use Rattle.keyboard.specs.Calls.{Call, image_after, keymap}
 use Rattle.keyboard.specs.Effects.{SentReport, report_taken}
-use Rattle.keyboard.specs.Feature.{command_in}
+use Rattle.keyboard.specs.Feature.{command_of_bytes}
 use Rattle.keyboard.specs.Fate.{Fate, works, settled, failed, fate}
 
 -- a command that was accepted, and what has become of it
@@ -18,7 +18,7 @@ pub record Accepted : Type 0 where
 
 -- the command in a report: in its bytes after the ID, if it is the feature report
 abbrev pub command_of : HostReport → Bytes → Option Command
-command_of FeatureData bytes = result_ok (command_in (drop 1 bytes))
+command_of FeatureData bytes = result_ok (command_of_bytes (drop 1 bytes))
 command_of _ bytes = None
 
 -- the command in the report that a call took, if it took one and there is a command in it

@@ -1,4 +1,4 @@
--- Believed: what the host has set: LEDs, the selected entry, the protocol and the idle values, read off the answers that
+-- Trusted: what the host has set: LEDs, the selected entry, the protocol and the idle values, read off the answers that
 -- were given and the SETUP packets that they belong to.
 use Rattle.shapes.specs.Shapes.{Bytes}
 use Rattle.std.specs.Prelude.{ℕ, ◌%◌, ◌/◌, ◌^◌, ◌==◌, ◌&&◌, if◌then◌else◌, Option, None, Some, unwrap_or, Result, Ok, List, [], ◌∷◌, slice_index}
@@ -98,8 +98,8 @@ unfoldable pub effect_asked : Option Bytes → Effect
 effect_asked setup = option_map_or (λ bytes. effect_of_request (request_of bytes)) setup Nothing
 
 -- what an answer to an IN packet brings about: the empty packet of its status stage ends a request without data
-abbrev pub effect_told : List Call → EpAnswer → Effect
-effect_told before answer = if is_empty_packet answer then effect_asked (setup_of before) else Nothing
+abbrev pub effect_reported : List Call → EpAnswer → Effect
+effect_reported before answer = if is_empty_packet answer then effect_asked (setup_of before) else Nothing
 
 -- the protocol that an effect chooses, else the one before
 abbrev pub protocol_then : Effect → Protocol → Protocol
@@ -110,5 +110,5 @@ protocol_then _ protocol = protocol
 unfoldable pub protocol_after : List Call → Protocol
 protocol_after [] = Report
 protocol_after (BusReset ∷ before) = Report
-protocol_after (In answer ∷ before) = protocol_then (effect_told before answer) (protocol_after before)
+protocol_after (In answer ∷ before) = protocol_then (effect_reported before answer) (protocol_after before)
 protocol_after (_ ∷ before) = protocol_after before

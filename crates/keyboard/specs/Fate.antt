@@ -1,4 +1,4 @@
--- Believed: what becomes of a command that was accepted.
+-- Trusted: what becomes of a command that was accepted.
 use Rattle.std.specs.Prelude.{ℕ, ◌==◌, Bool, false, not, if◌then◌else◌, Result, Ok, Err, List, [], ◌∷◌}
 use Rattle.layers.specs.Codes.{layers, keys, DefaultCodes}
 use Rattle.layers.specs.Entries.{changed}

@@ -1,4 +1,4 @@
--- Believed: the feature report and the checks that it has to pass.
+-- Trusted: the feature report and the checks that it has to pass.
 use Rattle.shapes.specs.Shapes.{Bytes}
 use Rattle.std.specs.Prelude.{◌≡◌, ℕ, ◌+◌, ◌*◌, Bool, true, nat_lt, if◌then◌else◌, Result, Ok, Err, slice_index}
 use Rattle.layers.specs.Codes.{layers, keys, DefaultCodes}
@@ -16,8 +16,8 @@ use Rattle.keyboard.specs.Calls.{keymap}
 
 -- the command in a report's bytes after its ID: operation, layer, key, and the code, low byte first; or the first of
 -- these numbers that is none
-abbrev pub command_in : Bytes → Result Command KeymapError
-command_in bytes =
+abbrev pub command_of_bytes : Bytes → Result Command KeymapError
+command_of_bytes bytes =
     command_read (slice_index bytes 0) (slice_index bytes 1) (slice_index bytes 2) (slice_index bytes 3 + 256 * slice_index bytes 4)
 
 -- where p holds, q; else r
@@ -51,4 +51,4 @@ module _ (defaults : DefaultCodes) where
   FeatureAnswer image busy bytes answer =
       Where (busy ≡ true) (answer ≡ Nak)
       (Where (slice_index bytes 0 ≡ 0) (answer ≡ select_answer (slice_index bytes 1) (slice_index bytes 2))
-      (ReadAnswer defaults image (command_in bytes) answer))
+      (ReadAnswer defaults image (command_of_bytes bytes) answer))

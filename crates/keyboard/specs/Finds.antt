@@ -1,4 +1,4 @@
--- Believed: which commands a restart finds.
+-- Trusted: which commands a restart finds.
 use Rattle.std.specs.Prelude.{◌≡◌, ◌≢◌, ℕ, List, [], ◌∷◌, ◌++◌}
 use Rattle.layers.specs.Codes.{DefaultCodes}
 use Rattle.layers.specs.Entries.{changed}

@@ -1,4 +1,4 @@
--- Believed: where a header comes from.
+-- Trusted: where a header comes from.
 use Rattle.shapes.specs.Shapes.{Bytes}
 use Rattle.std.specs.Prelude.{◌≡◌, ℕ, ◌<◌, List, length, slice_get, Some}
 use Rattle.records.specs.declared.Slot.TheVariants.{Good}

@@ -9,11 +9,11 @@ pub mod Bounded
 pub mod Operated
 pub mod Headers
 pub mod Restart
-pub mod Lawful
+pub mod Conforming
 pub mod Acknowledged
 pub mod Sound
 pub mod Single
 pub mod Finds
 pub mod Turnovers
-pub mod ties
+pub mod representation
 pub mod Progress

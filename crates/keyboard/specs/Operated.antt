@@ -1,4 +1,4 @@
--- Believed: what a step of the flash work makes of the flash while a command works: one operation, whole or torn.
+-- Trusted: what a step of the flash work makes of the flash while a command works: one operation, whole or torn.
 use Rattle.shapes.specs.Shapes.{Bytes}
 use Rattle.std.specs.Prelude.{◌≡◌, ◌⊎◌, ℕ, suc, ◌+◌, ◌^◌, ◌<◌, ◌≤◌, List, [], ◌∷◌, ◌++◌, length, slice_get, slice_index, Some}
 use Rattle.records.specs.declared.Slot.TheVariants.{Free, Good}
@@ -49,7 +49,7 @@ module _ (defaults : DefaultCodes) where
     pub copied : (k : ℕ) → k < n → slot_of (slot_at old (target_page old) (k + 1)) ≡ Good (slice_index (all_copies defaults (keymap defaults old)) k)
     pub rest : FreeFrom old (target_page old) (n + 1)
 
-  -- the operation is one of a turn, on the page after the active one: the page is erased, where it is not blank; of the words
+  -- the operation is one of a compaction, on the page after the active one: the page is erased, where it is not blank; of the words
   -- that set the entries that differ from the default, the one at n is copied to slot n + 1, where the page holds those before
   -- it; or the header with the next sequence number goes to slot 0, where the page holds them all
   pub data IsOfTurn (old : Bytes) (operation : Operation) : Type 0 where

@@ -1,4 +1,4 @@
--- Believed: how a command is served where nothing is in its way.
+-- Trusted: how a command is served where nothing is in its way.
 use Rattle.shapes.specs.Shapes.{Bytes}
 use Rattle.std.specs.Prelude.{◌≡◌, ◌≢◌, ℕ, if◌then◌else◌, None, List, [], ◌∷◌, length}
 use Rattle.layers.specs.Codes.{DefaultCodes}

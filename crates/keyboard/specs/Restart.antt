@@ -1,4 +1,4 @@
--- Believed: what a restart may find of the keymap.
+-- Trusted: what a restart may find of the keymap.
 use Rattle.shapes.specs.Shapes.{Bytes}
 use Rattle.std.specs.Prelude.{◌≡◌, ℕ, Some, List, [], ◌∷◌, ◌++◌}
 use Rattle.flash_model.specs.Image.{IsImage}

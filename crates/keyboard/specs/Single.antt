@@ -1,4 +1,4 @@
--- Believed: what a session is given by: its calls without their answers, and without the images of its flash work.
+-- Trusted: what a session is given by: its calls without their answers, and without the images of its flash work.
 use Rattle.shapes.specs.Shapes.{Bytes}
 use Rattle.std.specs.Prelude.{◌≡◌, ◌≢◌, None, Some, List, [], ◌∷◌, slice_get}
 use Rattle.layers.specs.Codes.{DefaultCodes}

@@ -1,4 +1,4 @@
--- Believed: slot 0 of each page stays sound.
+-- Trusted: slot 0 of each page stays sound.
 use Rattle.shapes.specs.Shapes.{Bytes}
 use Rattle.std.specs.Prelude.{◌≡◌, List, [], ◌∷◌}
 use Rattle.page_turnover.specs.Usable.{IsUsable}

@@ -1,4 +1,4 @@
--- Believed: how far apart the turnovers of a session are.
+-- Trusted: how far apart the compactions of a session are.
 use Rattle.shapes.specs.Shapes.{Bytes}
 use Rattle.std.specs.Prelude.{ℕ, suc, List, [], ◌∷◌, ◌++◌}
 use Rattle.layers.specs.Codes.{DefaultCodes}

@@ -1,16 +1,16 @@
 //! What a feature report asks for.
 
 ghost use Rattle.std.specs.Prelude.{◌≡◌, ◌+◌, ◌*◌, slice_index};
-ghost use Rattle.keyboard.specs.Feature.{command_in};
-ghost use Rattle.keyboard.specs.ties.Private.{verdict_of};
+ghost use Rattle.keyboard.specs.Feature.{command_of_bytes};
+ghost use Rattle.keyboard.specs.representation.Private.{verdict_of};
 
 use control_ep::{Verdict, Why};
 use keymap_store::{SubmitRefusal, Taken};
 use layers::{Command, KeymapError};
 
 /// The command in a feature report's bytes after its ID, or the first of its numbers that is none.
-pub(crate) fn command_in(bytes: [u8; 5]) -> Result<Command, KeymapError>
-    ensures { result ≡ command_in bytes }
+pub(crate) fn command_of_bytes(bytes: [u8; 5]) -> Result<Command, KeymapError>
+    ensures { result ≡ command_of_bytes bytes }
 {
     let [op, layer, key, low, high] = bytes;
     Command::read(op, layer, key, u16::from_le_bytes([low, high]))

@@ -5,8 +5,8 @@ ghost use Rattle.std.specs.Option.{option_map};
 ghost use Rattle.layers.specs.Entries.{changed};
 ghost use Rattle.layers.specs.Keymaps.{HasEntries};
 ghost use Rattle.layers.specs.Usages.{has_key, has_consumer};
-ghost use Rattle.control_ep.specs.Answers.{in_answer, judged_answer, IfNak, IfStall};
-ghost use Rattle.control_ep.specs.Written.{told, HasRoom};
+ghost use Rattle.control_ep.specs.Answers.{in_answer, checked_answer, IfNak, IfStall};
+ghost use Rattle.control_ep.specs.Written.{as_answer, HasRoom};
 ghost use Rattle.control_ep.specs.Transfers.{Stalled};
 ghost use Rattle.control_ep.specs.declared.answer.EpAnswer.{EpAnswer};
 ghost use Rattle.key_reports.specs.Past.{keys_after, consumer_after, answer_after};
@@ -18,13 +18,13 @@ ghost use Rattle.keyboard.specs.Calls.{Call, Scanned, SetUp, Out, In, Polled, Wo
 ghost use Rattle.keyboard.specs.Effects.{leds_after, selected, protocol_after};
 ghost use Rattle.keyboard.specs.Commands.{accepted, settled_of};
 ghost use Rattle.keyboard.specs.Keys.{key_calls};
-ghost use Rattle.keyboard.specs.Feature.{command_in, select_answer};
-ghost use Rattle.keyboard.specs.Endpoint.{verdict_told, stage_after};
-ghost use Rattle.keyboard.specs.ties.Private.{Judges};
+ghost use Rattle.keyboard.specs.Feature.{command_of_bytes, select_answer};
+ghost use Rattle.keyboard.specs.Endpoint.{verdict_reported, stage_after};
+ghost use Rattle.keyboard.specs.representation.Private.{Checks};
 ghost use Rattle.keyboard.specs.Restart.{CutsLegally};
-ghost use Rattle.keyboard.specs.Lawful.{IsAnswered, MakesSuch};
+ghost use Rattle.keyboard.specs.Conforming.{IsAnswered, MakesSuch};
 
-use crate::feature::{command_in, verdict_of};
+use crate::feature::{command_of_bytes, verdict_of};
 use crate::room::Room;
 use crate::shown::Shown;
 use control_ep::{ControlEp, Effect, EpAnswer, InAnswer, OutStep, Verdict, Why};
@@ -72,7 +72,7 @@ pub struct KeyboardOf<D: Defaults> {
 pub type Keyboard = KeyboardOf<Standard>;
 
 impl<D: Defaults> Model for KeyboardOf<D> {
-    ghost use Rattle.keyboard.specs.ties.Value.{KeyboardValue};
+    ghost use Rattle.keyboard.specs.representation.Value.{KeyboardValue};
 
     ghost Value = { KeyboardValue };
 
@@ -80,15 +80,15 @@ impl<D: Defaults> Model for KeyboardOf<D> {
 }
 
 impl<D: Defaults> KeyboardOf<D> {
-    ghost use Rattle.keyboard.specs.ties.Value.{RunsOn, at_work};
-    ghost use Rattle.keyboard.specs.ties.Stands.{StandsFor};
+    ghost use Rattle.keyboard.specs.representation.Value.{RunsOn, at_work};
+    ghost use Rattle.keyboard.specs.representation.Relation.{Refines};
 
     /// Starts a keyboard on a flash, whose keymap it reads: report protocol, no LED on, every key up,
     /// nothing sent, entry (0, 0) selected, and no transfer. `AllocError` where there was no room for the
     /// reports that wait (`Room::take`); no other call takes memory.
     pub fn start<F: NorFlash>(alloc: Global, flash: &F) -> Result<KeyboardOf<D>, AllocError>
         // it stands for no call, on this image
-        ensures stands { IfOk result (λ keyboard. StandsFor D.defaults (F.image flash.now) [] keyboard) }
+        ensures refines { IfOk result (λ keyboard. Refines D.defaults (F.image flash.now) [] keyboard) }
         // it runs on this flash
         ensures runs_on { IfOk result (λ keyboard. RunsOn D.defaults (F.image flash.now) keyboard) }
     {
@@ -100,7 +100,7 @@ impl<D: Defaults> KeyboardOf<D> {
     /// refuses it.
     pub fn start_in<F: NorFlash>(room: Room, flash: &F) -> KeyboardOf<D>
         // it stands for no call, on this image
-        ensures stands { StandsFor D.defaults (F.image flash.now) [] result }
+        ensures refines { Refines D.defaults (F.image flash.now) [] result }
         // it runs on this flash
         ensures runs_on { RunsOn D.defaults (F.image flash.now) result }
     {
@@ -119,7 +119,7 @@ impl<D: Defaults> KeyboardOf<D> {
     /// no memory.
     pub fn restart<F: NorFlash>(&mut self, flash: &F)
         // it stands for no call, on this image
-        ensures stands { StandsFor D.defaults (F.image flash.now) [] self.new }
+        ensures refines { Refines D.defaults (F.image flash.now) [] self.new }
         // it runs on this flash
         ensures runs_on { RunsOn D.defaults (F.image flash.now) self.new }
     {
@@ -137,8 +137,8 @@ impl<D: Defaults> KeyboardOf<D> {
     /// this changes wait for a poll.
     pub fn scan(&mut self, scan: Scan)
         // it stands for this call after those before it
-        ensures stands { (start : List ℕ) (past : List Call) → StandsFor D.defaults start past self.old
-            → StandsFor D.defaults start (Scanned scan ∷ past) self.new }
+        ensures refines { (start : List ℕ) (past : List Call) → Refines D.defaults start past self.old
+            → Refines D.defaults start (Scanned scan ∷ past) self.new }
         // it still runs on its flash
         ensures runs_on { (image : List ℕ) → RunsOn D.defaults image self.old → RunsOn D.defaults image self.new }
     {
@@ -150,8 +150,8 @@ impl<D: Defaults> KeyboardOf<D> {
     /// now; the flash work goes on.
     pub fn setup(&mut self, packet: [u8; 8])
         // it stands for this call after those before it
-        ensures stands { (start : List ℕ) (past : List Call) → StandsFor D.defaults start past self.old
-            → StandsFor D.defaults start (SetUp packet ∷ past) self.new }
+        ensures refines { (start : List ℕ) (past : List Call) → Refines D.defaults start past self.old
+            → Refines D.defaults start (SetUp packet ∷ past) self.new }
         // it still runs on its flash
         ensures runs_on { (image : List ℕ) → RunsOn D.defaults image self.old → RunsOn D.defaults image self.new }
     {
@@ -173,15 +173,15 @@ impl<D: Defaults> KeyboardOf<D> {
     /// works. Each other packet is answered by a `Stall`, and so is each further one of the transfer.
     pub fn out(&mut self, packet: &[u8]) -> EpAnswer
         // it stands for this call after those before it
-        ensures stands { (start : List ℕ) (past : List Call) → StandsFor D.defaults start past self.old
-            → StandsFor D.defaults start (Out packet.now result ∷ past) self.new }
+        ensures refines { (start : List ℕ) (past : List Call) → Refines D.defaults start past self.old
+            → Refines D.defaults start (Out packet.now result ∷ past) self.new }
         // the answer is that of the transfer's stage, and of the checks of a feature report
-        ensures answer { (start : List ℕ) (past : List Call) → StandsFor D.defaults start past self.old
+        ensures answer { (start : List ℕ) (past : List Call) → Refines D.defaults start past self.old
             → IsAnswered D.defaults start past (Out packet.now result) }
         // a NAK changes nothing, and a STALL the transfer alone
-        ensures nak { (start : List ℕ) (past : List Call) → StandsFor D.defaults start past self.old
+        ensures nak { (start : List ℕ) (past : List Call) → Refines D.defaults start past self.old
             → IfNak result (self.new ≡ self.old) }
-        ensures stall { (start : List ℕ) (past : List Call) → StandsFor D.defaults start past self.old
+        ensures stall { (start : List ℕ) (past : List Call) → Refines D.defaults start past self.old
             → IfStall result (λ why. self.new ≡ record self.old { ep = Stalled why }) }
         // it still runs on its flash
         ensures runs_on { (image : List ℕ) → RunsOn D.defaults image self.old → RunsOn D.defaults image self.new }
@@ -195,10 +195,10 @@ impl<D: Defaults> KeyboardOf<D> {
     /// what was sent and drops what waits.
     pub fn in_packet(&mut self) -> EpAnswer
         // it stands for this call after those before it
-        ensures stands { (start : List ℕ) (past : List Call) → StandsFor D.defaults start past self.old
-            → StandsFor D.defaults start (In result ∷ past) self.new }
+        ensures refines { (start : List ℕ) (past : List Call) → Refines D.defaults start past self.old
+            → Refines D.defaults start (In result ∷ past) self.new }
         // the answer is that of the transfer's stage
-        ensures answer { (start : List ℕ) (past : List Call) → StandsFor D.defaults start past self.old
+        ensures answer { (start : List ℕ) (past : List Call) → Refines D.defaults start past self.old
             → result ≡ in_answer (stage_after D.defaults start past) }
         // a NAK changes nothing, and a STALL the transfer alone
         ensures nak { IfNak result (self.new ≡ self.old) }
@@ -216,16 +216,16 @@ impl<D: Defaults> KeyboardOf<D> {
     /// nothing.
     pub fn in_packet_into(&mut self, packet: &mut [u8; 8]) -> InAnswer
         // it stands for this call after those before it
-        ensures stands { (start : List ℕ) (past : List Call) → StandsFor D.defaults start past self.old
-            → StandsFor D.defaults start (In (told result packet.new) ∷ past) self.new }
+        ensures refines { (start : List ℕ) (past : List Call) → Refines D.defaults start past self.old
+            → Refines D.defaults start (In (as_answer result packet.new) ∷ past) self.new }
         // the answer is that of the transfer's stage
-        ensures answer { (start : List ℕ) (past : List Call) → StandsFor D.defaults start past self.old
-            → told result packet.new ≡ in_answer (stage_after D.defaults start past) }
+        ensures answer { (start : List ℕ) (past : List Call) → Refines D.defaults start past self.old
+            → as_answer result packet.new ≡ in_answer (stage_after D.defaults start past) }
         // the packet is within the buffer
         ensures room { HasRoom result }
         // a NAK changes nothing, and a STALL the transfer alone
-        ensures nak { IfNak (told result packet.new) (self.new ≡ self.old) }
-        ensures stall { IfStall (told result packet.new) (λ why. self.new ≡ record self.old { ep = Stalled why }) }
+        ensures nak { IfNak (as_answer result packet.new) (self.new ≡ self.old) }
+        ensures stall { IfStall (as_answer result packet.new) (λ why. self.new ≡ record self.old { ep = Stalled why }) }
         // it still runs on its flash
         ensures runs_on { (image : List ℕ) → RunsOn D.defaults image self.old → RunsOn D.defaults image self.new }
     {
@@ -246,10 +246,10 @@ impl<D: Defaults> KeyboardOf<D> {
     /// those last sent, else one whose idle time has passed since then, or `None`. It then counts as sent.
     pub fn poll(&mut self) -> Option<Report>
         // it stands for this call after those before it
-        ensures stands { (start : List ℕ) (past : List Call) → StandsFor D.defaults start past self.old
-            → StandsFor D.defaults start (Polled (option_map (λ r. r.items) result) ∷ past) self.new }
+        ensures refines { (start : List ℕ) (past : List Call) → Refines D.defaults start past self.old
+            → Refines D.defaults start (Polled (option_map (λ r. r.items) result) ∷ past) self.new }
         // the answer is the report that waits, else that of the poll rule
-        ensures answer { (start : List ℕ) (past : List Call) → StandsFor D.defaults start past self.old
+        ensures answer { (start : List ℕ) (past : List Call) → Refines D.defaults start past self.old
             → option_map (λ r. r.items) result ≡ answer_after (protocol_after past) (key_calls D.defaults start past) }
         // it still runs on its flash
         ensures runs_on { (image : List ℕ) → RunsOn D.defaults image self.old → RunsOn D.defaults image self.new }
@@ -264,20 +264,20 @@ impl<D: Defaults> KeyboardOf<D> {
     pub fn work<F: NorFlash>(&mut self, flash: &mut F) -> Work
         requires { RunsOn D.defaults (F.image flash.old) self.old }
         // it stands for this call after those before it
-        ensures stands { (start : List ℕ) (past : List Call) → StandsFor D.defaults start past self.old → image_after start past ≡ F.image flash.old
-            → StandsFor D.defaults start (Worked result (F.image flash.new) ∷ past) self.new }
+        ensures refines { (start : List ℕ) (past : List Call) → Refines D.defaults start past self.old → image_after start past ≡ F.image flash.old
+            → Refines D.defaults start (Worked result (F.image flash.new) ∷ past) self.new }
         // the answer says what the operation did to the command, the log and the keymap
-        ensures answer { (start : List ℕ) (past : List Call) → StandsFor D.defaults start past self.old → image_after start past ≡ F.image flash.old
+        ensures answer { (start : List ℕ) (past : List Call) → Refines D.defaults start past self.old → image_after start past ≡ F.image flash.old
             → IsAnswered D.defaults start past (Worked result (F.image flash.new)) }
         // where the power is cut inside the operation, a restart finds a legal keymap
-        ensures cut { (start : List ℕ) (past : List Call) → StandsFor D.defaults start past self.old → image_after start past ≡ F.image flash.old
+        ensures cut { (start : List ℕ) (past : List Call) → Refines D.defaults start past self.old → image_after start past ≡ F.image flash.old
             → result ≢ Work.Idle → CutsLegally D.defaults start past result (F.image flash.new) }
         // it still runs on its flash
         ensures runs_on { RunsOn D.defaults (F.image flash.new) self.new }
         // at most one operation is made, and none where the answer is Idle
         ensures counts { CountsAs (result ≡ Work.Idle) (result ≡ Work.Failed) (F.operations flash.old) (F.operations flash.new) (F.faults flash.old) (F.faults flash.new) }
         // the operation is made on this flash
-        ensures operated { (start : List ℕ) (past : List Call) → StandsFor D.defaults start past self.old → image_after start past ≡ F.image flash.old
+        ensures operated { (start : List ℕ) (past : List Call) → Refines D.defaults start past self.old → image_after start past ≡ F.image flash.old
             → result ≢ Work.Idle → MakesSuch D.defaults start past result (F.image flash.new) (λ operation. F.operates flash.old (on_flash operation) flash.new) }
         // without an operation the flash stays as it is
         ensures untouched { result ≡ Work.Idle → flash.new ≡ flash.old }
@@ -298,8 +298,8 @@ impl<D: Defaults> KeyboardOf<D> {
     /// keymap, the flash work, the keys and the selected entry stay.
     pub fn bus_reset(&mut self)
         // it stands for this call after those before it
-        ensures stands { (start : List ℕ) (past : List Call) → StandsFor D.defaults start past self.old
-            → StandsFor D.defaults start (BusReset ∷ past) self.new }
+        ensures refines { (start : List ℕ) (past : List Call) → Refines D.defaults start past self.old
+            → Refines D.defaults start (BusReset ∷ past) self.new }
         // it still runs on its flash
         ensures runs_on { (image : List ℕ) → RunsOn D.defaults image self.old → RunsOn D.defaults image self.new }
     {
@@ -311,10 +311,10 @@ impl<D: Defaults> KeyboardOf<D> {
 
     /// Returns the keymap: that of the flash's image.
     pub fn keymap(&self) -> &KeymapOf<D>
-        ensures of_image { (start : List ℕ) (past : List Call) → StandsFor D.defaults start past self.now
+        ensures of_image { (start : List ℕ) (past : List Call) → Refines D.defaults start past self.now
             → HasEntries (keymap D.defaults (image_after start past)) result.now }
         // and that of the start, changed by the settled commands in order
-        ensures settled { (start : List ℕ) (past : List Call) → StandsFor D.defaults start past self.now
+        ensures settled { (start : List ℕ) (past : List Call) → Refines D.defaults start past self.now
             → HasEntries (changed D.defaults (keymap D.defaults start) (settled_of (accepted D.defaults start past))) result.now }
     {
         self.store.keymap()
@@ -323,7 +323,7 @@ impl<D: Defaults> KeyboardOf<D> {
     /// Returns whether no page of the flash has a header yet: nothing was stored on it since it was
     /// erased. A firmware that has settings of its own to store does so where this holds at its start.
     pub fn is_first_start(&self) -> bool
-        ensures { (start : List ℕ) (past : List Call) → StandsFor D.defaults start past self.now
+        ensures { (start : List ℕ) (past : List Call) → Refines D.defaults start past self.now
             → result ≡ is_none (format (image_after start past)) }
     {
         self.store.is_first_start()
@@ -332,10 +332,10 @@ impl<D: Defaults> KeyboardOf<D> {
     /// Returns the usages that the codes of the held keys name.
     pub fn usages(&self) -> Usages
         // the usages of page 07h
-        ensures keys { (start : List ℕ) (past : List Call) (usage : ℕ) → StandsFor D.defaults start past self.now
+        ensures keys { (start : List ℕ) (past : List Call) (usage : ℕ) → Refines D.defaults start past self.now
             → has_key result usage ≡ keys_after (key_calls D.defaults start past) usage }
         // the usages of page 0Ch
-        ensures consumer { (start : List ℕ) (past : List Call) (usage : ℕ) → StandsFor D.defaults start past self.now
+        ensures consumer { (start : List ℕ) (past : List Call) (usage : ℕ) → Refines D.defaults start past self.now
             → has_consumer result usage ≡ consumer_after (key_calls D.defaults start past) usage }
     {
         self.keys.usages()
@@ -343,7 +343,7 @@ impl<D: Defaults> KeyboardOf<D> {
 
     /// Returns the protocol in force (HID 1.11 section 7.2.5).
     pub fn protocol(&self) -> Protocol
-        ensures { (start : List ℕ) (past : List Call) → StandsFor D.defaults start past self.now
+        ensures { (start : List ℕ) (past : List Call) → Refines D.defaults start past self.now
             → result ≡ protocol_after past }
     {
         self.protocol
@@ -351,7 +351,7 @@ impl<D: Defaults> KeyboardOf<D> {
 
     /// Returns the LEDs: usages 01h to 05h of page 08h in bits 0 to 4.
     pub fn leds(&self) -> u8
-        ensures { (start : List ℕ) (past : List Call) → StandsFor D.defaults start past self.now
+        ensures { (start : List ℕ) (past : List Call) → Refines D.defaults start past self.now
             → result ≡ leds_after past }
     {
         self.leds
@@ -360,13 +360,13 @@ impl<D: Defaults> KeyboardOf<D> {
     /// Takes an OUT packet and answers it. It stands apart since the folder of a proof of `out` would have
     /// the name of what the toolchain makes.
     fn answer_out(&mut self, packet: &[u8]) -> EpAnswer
-        ensures stands { (start : List ℕ) (past : List Call) → StandsFor D.defaults start past self.old
-            → StandsFor D.defaults start (Out packet.now result ∷ past) self.new }
-        ensures answer { (start : List ℕ) (past : List Call) → StandsFor D.defaults start past self.old
+        ensures refines { (start : List ℕ) (past : List Call) → Refines D.defaults start past self.old
+            → Refines D.defaults start (Out packet.now result ∷ past) self.new }
+        ensures answer { (start : List ℕ) (past : List Call) → Refines D.defaults start past self.old
             → IsAnswered D.defaults start past (Out packet.now result) }
-        ensures nak { (start : List ℕ) (past : List Call) → StandsFor D.defaults start past self.old
+        ensures nak { (start : List ℕ) (past : List Call) → Refines D.defaults start past self.old
             → IfNak result (self.new ≡ self.old) }
-        ensures stall { (start : List ℕ) (past : List Call) → StandsFor D.defaults start past self.old
+        ensures stall { (start : List ℕ) (past : List Call) → Refines D.defaults start past self.old
             → IfStall result (λ why. self.new ≡ record self.old { ep = Stalled why }) }
         ensures runs_on { (image : List ℕ) → RunsOn D.defaults image self.old → RunsOn D.defaults image self.new }
     {
@@ -377,15 +377,15 @@ impl<D: Defaults> KeyboardOf<D> {
                 EpAnswer::Ack
             }
             OutStep::Offer(bytes) => {
-                let verdict = self.judge(bytes);
+                let verdict = self.check_command(bytes);
                 self.ep.verdict(verdict)
             }
         }
     }
 
     /// The verdict on a feature report, by its bytes after the ID.
-    fn judge(&mut self, bytes: [u8; 5]) -> Verdict
-        ensures { (image : List ℕ) → RunsOn D.defaults image self.old → Judges D.defaults image bytes result self.old self.new }
+    fn check_command(&mut self, bytes: [u8; 5]) -> Verdict
+        ensures { (image : List ℕ) → RunsOn D.defaults image self.old → Checks D.defaults image bytes result self.old self.new }
     {
         if self.store.busy() {
             return Verdict::Busy;
@@ -394,7 +394,7 @@ impl<D: Defaults> KeyboardOf<D> {
         if op == 0 {
             return self.select(layer, key);
         }
-        match command_in(bytes) {
+        match command_of_bytes(bytes) {
             Ok(command) => self.submit(&command),
             Err(error) => Verdict::Refused(Why::from(error)),
         }
@@ -402,10 +402,10 @@ impl<D: Defaults> KeyboardOf<D> {
 
     /// Selects an entry for reading.
     fn select(&mut self, layer: u8, key: u8) -> Verdict
-        ensures answer { judged_answer result ≡ select_answer layer key }
-        ensures told { result ≡ verdict_told false (judged_answer result) }
-        ensures done { judged_answer result ≡ EpAnswer.Ack → self.new ≡ record self.old { layer = layer; key = key } }
-        ensures kept { (judged_answer result ≡ EpAnswer.Ack → ⊥) → self.new ≡ self.old }
+        ensures answer { checked_answer result ≡ select_answer layer key }
+        ensures as_answer { result ≡ verdict_reported false (checked_answer result) }
+        ensures done { checked_answer result ≡ EpAnswer.Ack → self.new ≡ record self.old { layer = layer; key = key } }
+        ensures kept { (checked_answer result ≡ EpAnswer.Ack → ⊥) → self.new ≡ self.old }
     {
         let layer = match LayerNo::read(layer) {
             Ok(layer) => layer,
@@ -422,8 +422,8 @@ impl<D: Defaults> KeyboardOf<D> {
 
     /// Hands a command to the store while none works.
     fn submit(&mut self, command: &Command) -> Verdict
-        ensures { (image bytes : List ℕ) → RunsOn D.defaults image self.old → at_work self.old ≡ None → command_in bytes ≡ Ok command.now
-            → Judges D.defaults image bytes result self.old self.new }
+        ensures { (image bytes : List ℕ) → RunsOn D.defaults image self.old → at_work self.old ≡ None → command_of_bytes bytes ≡ Ok command.now
+            → Checks D.defaults image bytes result self.old self.new }
     {
         verdict_of(self.store.submit(*command))
     }

@@ -4,22 +4,22 @@
 //! Each call is one event: a scan of the matrix, a packet of endpoint 0, a poll of endpoint 1, a step
 //! of the flash work, a bus reset. The contracts say of each call what it is answered by the calls
 //! since the start, newest first, and by the image of the flash that the keyboard started on. The
-//! laws say what follows for the keymap at each moment, also where the power is cut.
+//! theorems say what follows for the keymap at each moment, also where the power is cut.
 //!
 //! `Room::take` takes the memory of the reports that wait, and no other call takes memory:
 //! `Keyboard::start_in` reads the flash in that room and can't be refused. `Keyboard::start` is both.
 //!
 //! A `Keyboard` keeps its three parts, the protocol, the LEDs and the selected entry. The one
-//! promise: an assignment that the host was told is stored outlives every cut, until a command is
+//! guarantee: an assignment that the host was told is stored outlives every cut, until a command is
 //! accepted that would write its entry. A firmware calls it; `world` does on
 //! a simulated flash.
 #![tactic(auto)]
 
 mod feature;
 mod keyboard;
-pub mod laws;
 mod room;
 mod shown;
+pub mod theorems;
 
 pub use control_ep::{EpAnswer, InAnswer, Why};
 pub use flash_model::NorFlash;

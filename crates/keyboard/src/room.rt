@@ -16,18 +16,18 @@ pub struct Room {
 // No report waits in it: its keys stand for no call.
 impl Model for Room {
     ghost use Rattle.std.specs.Prelude.{[]};
-    ghost use Rattle.key_reports.specs.ties.Value.{KeysValue};
-    ghost use Rattle.key_reports.specs.ties.Stands.{StandsFor};
+    ghost use Rattle.key_reports.specs.representation.Value.{KeysValue};
+    ghost use Rattle.key_reports.specs.representation.Relation.{Refines};
 
     ghost Value = { KeysValue };
 
     ghost view = { λ r. r.keys };
 
-    ghost invariant = { λ r. StandsFor [] r.keys };
+    ghost invariant = { λ r. Refines [] r.keys };
 }
 
 impl Room {
-    ghost use Rattle.key_reports.specs.ties.Stands.{StandsFor};
+    ghost use Rattle.key_reports.specs.representation.Relation.{Refines};
 
     /// Takes the room of one keyboard. `AllocError` where there is no memory for it.
     pub fn take(alloc: Global) -> Result<Room, AllocError> {
@@ -37,7 +37,7 @@ impl Room {
 
     /// The keys and their reports, in this room.
     pub(crate) fn into_keys(self) -> KeyReports
-        ensures { StandsFor [] result }
+        ensures { Refines [] result }
     {
         self.keys
     }

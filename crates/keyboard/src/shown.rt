@@ -1,6 +1,6 @@
 //! What a SETUP packet is answered from: the keyboard without its endpoint.
 
-ghost use Rattle.keyboard.specs.ties.Shown.{Shows};
+ghost use Rattle.keyboard.specs.representation.Shown.{Shows};
 
 use control_ep::DeviceReports;
 use key_reports::{IdleId, KeyReports, Protocol};

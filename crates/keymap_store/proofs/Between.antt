@@ -1,4 +1,4 @@
--- How many appends lie between two turnovers.
+-- How many appends lie between two compactions.
 use Rattle.std.proofs.Common.{◌≡◌, ◌∙◌, ℕ, zero, suc, ◌+◌, ◌-◌, ◌≤◌, ◌<◌, ◌⊎◌, refl, arith, List, Some, inl, inr}
 use Rattle.std.proofs.lemmas.Bool.{cases_eq, cases_lt}
 use Rattle.records.specs.declared.Slot.{Slot}

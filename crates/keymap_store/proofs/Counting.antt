@@ -9,7 +9,7 @@ use Rattle.page_turnover.specs.declared.log.stepping.Step.TheVariants.{Moved, Co
 use Rattle.page_turnover.specs.Value.{LogValue, Target, Unread, Holds, Task, Rest, Append, Wait, Copy, Seal}
 use Rattle.page_turnover.specs.Words.{HasRoom, IsBlank}
 use Rattle.page_turnover.specs.Turn.{copies, copied, target_page}
-use Rattle.page_turnover.specs.ties.Turn.{UnderWay}
+use Rattle.page_turnover.specs.representation.Turn.{UnderWay}
 use Rattle.page_turnover.specs.Steps.{IsReady, StepsFor, Steps, Keeps, EndsAs}
 use Rattle.page_turnover.proofs.Endings.{waiting_count}
 use Rattle.page_turnover.proofs.Blanks.{is_blank-blank, is_blank-used}
@@ -19,7 +19,7 @@ use Rattle.keymap_store.specs.declared.store.Job.TheVariants.{Resting, Appending
 use Rattle.keymap_store.specs.Keymap.{entries_of}
 use Rattle.keymap_store.specs.Value.{StoreValue}
 use Rattle.keymap_store.proofs.Keymaps.{entries_of-keeps}
-use Rattle.keymap_store.specs.ties.Store.{Mirrors, OffersBelow}
+use Rattle.keymap_store.specs.representation.Store.{Mirrors, OffersBelow}
 use Rattle.keymap_store.specs.Left.{differing_below, differing, erases_left, turn_left, target_of, left_for, left, Needs}
 
 -- whether a target has to be erased
@@ -102,7 +102,7 @@ module _ (defaults : DefaultCodes) where
   differing-same : (old new : List ℕ) → Keeps old new → differing defaults new ≡ differing defaults old
   differing-same old new k = differing-is new ∙ rw (entries_of-keeps defaults old new k) refl ∙ sym (differing-is old)
 
-  -- without room a new command needs a turn before its record
+  -- without room a new command needs a compaction before its record
   pub needs_turn : (image : List ℕ) → (HasRoom image → ⊥) → Needs defaults image (turn_left defaults image Unread)
   needs_turn image f = record {
     room = λ r. absurd (f r);
@@ -125,7 +125,7 @@ module _ (defaults : DefaultCodes) where
       let d : differing defaults image ≤ places = differing-most image in
       omega arith
 
-  -- each step of a turn leaves one operation less
+  -- each step of a compaction leaves one operation less
   after_move : (from : ℕ) (old : List ℕ) (before : LogValue) (task : Task) (new : List ℕ) (after : LogValue) → from ≤ places → UnderWay old task → OffersBelow defaults (entries_of defaults old) from old task → StepsFor task old before Moved new after → Keeps old new
       → turn_left defaults new (target_of after.task) + 1 ≡ turn_left defaults old (target_of task)
   after_move from old before Rest new after l u o s w = absurd o
@@ -168,7 +168,7 @@ module _ (defaults : DefaultCodes) where
       let S : Step → Type 0 = λ s. Steps old before s new after in
       after_move from old before before.task new after l u o (subst S e (ends.done (λ f. cc))) w
 
-  -- the header is the last operation of a turn
+  -- the header is the last operation of a compaction
   after_commit : (from : ℕ) (old : List ℕ) (before : LogValue) (task : Task) (new : List ℕ) (after : LogValue) → UnderWay old task → OffersBelow defaults (entries_of defaults old) from old task → StepsFor task old before Committed new after → turn_left defaults old (target_of task) ≡ 2
   after_commit from old before Rest new after u o s = absurd o
   after_commit from old before (Append word) new after u o s = absurd o
@@ -192,6 +192,6 @@ module _ (defaults : DefaultCodes) where
       let S : Step → Type 0 = λ s. Steps old before s new after in
       after_commit from old before before.task new after u o (subst S e (ends.done (λ f. cc)))
 
-  -- what a store that turns has left
+  -- what a store that compacts has left
   pub turning_left : (image : List ℕ) (store : StoreValue) (command : Command) (from : ℕ) → Mirrors defaults image store → store.job ≡ Turning command from → left defaults image store ≡ turn_left defaults image (target_of store.log.task)
   turning_left image store command from m e = rw e refl

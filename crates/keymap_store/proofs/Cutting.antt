@@ -14,12 +14,12 @@ use Rattle.page_turnover.specs.declared.log.ActivePage.{ActivePage}
 use Rattle.page_turnover.specs.declared.operation.Operation.{Operation}
 use Rattle.page_turnover.specs.declared.operation.Operation.TheVariants.{Program, Erase}
 use Rattle.page_turnover.specs.Value.{LogValue, Target, Task, Rest, Append, Wait, Copy, Seal}
-use Rattle.page_turnover.specs.ties.Log.{Describes}
+use Rattle.page_turnover.specs.representation.Log.{Describes}
 use Rattle.page_turnover.specs.Active.{active, format}
 use Rattle.page_turnover.specs.Blank.{is_blank}
 use Rattle.page_turnover.specs.Words.{HasRoom}
 use Rattle.page_turnover.specs.Turn.{copied, copies, target_page}
-use Rattle.page_turnover.specs.ties.Turn.{UnderWay, Copying}
+use Rattle.page_turnover.specs.representation.Turn.{UnderWay, Copying}
 use Rattle.page_turnover.specs.Next.{next_operation, append_operation, is_ready, MayMake, ReadsBack}
 use Rattle.page_turnover.specs.Steps.{Keeps, CommitsWord, CommitsTurn}
 use Rattle.page_turnover.specs.Leaves.{Leaves, IsEffect}
@@ -31,7 +31,7 @@ use Rattle.keymap_store.specs.declared.store.Job.{Job}
 use Rattle.keymap_store.specs.declared.store.Job.TheVariants.{Resting, Appending, Turning}
 use Rattle.keymap_store.specs.Value.{StoreValue}
 use Rattle.keymap_store.specs.Keymap.{entries_of, SameEntries}
-use Rattle.keymap_store.specs.ties.Store.{Mirrors, IsAppending, IsTurning, OffersBelow}
+use Rattle.keymap_store.specs.representation.Store.{Mirrors, IsAppending, IsTurning, OffersBelow}
 use Rattle.keymap_store.specs.Next.{all_copies, next_task, with_task, next_operation_of}
 use Rattle.keymap_store.specs.Turnovers.{Wears, over, spares, fills}
 use Rattle.keymap_store.specs.Cut.{recorded, as_before, CutLeaves}
@@ -62,7 +62,7 @@ reads_or (Erase page) image =
 some_operation : (a b : Operation) → Some a ≡ Some b → a ≡ b
 some_operation a b e = cc
 
--- a cut inside an operation of a turn touches its target alone
+-- a cut inside an operation of a compaction touches its target alone
 cut_in_target : (task : Task) (old : List ℕ) (log : LogValue) (operation : Operation) (new : List ℕ) → log.task ≡ task → IsOfTurn task → next_operation old log ≡ Some operation → MayMake old operation new → OnePage old (target_page old) new
 cut_in_target Rest old log operation new e t n m = absurd t
 cut_in_target (Append word) old log operation new e t n m = absurd t
@@ -78,7 +78,7 @@ same_of : (a b : ℕ → ℕ → ℕ) → a ≡ b → SameEntries a b
 same_of a b e layer key l k = rw e refl
 
 module _ (defaults : DefaultCodes) where
-  -- a turn at a copy or its seal, which comes after all copies
+  -- a compaction at a copy or its commit header, which comes after all copies
   abbrev SealsAll : (ℕ → ℕ → ℕ) → List ℕ → Task → Type 0
   SealsAll entries image Rest = Unit {0}
   SealsAll entries image (Append word) = Unit {0}
@@ -110,7 +110,7 @@ module _ (defaults : DefaultCodes) where
             subst P (sym e) (record { under_way = u; of_turn = tt; seals = copies_of_all defaults entries from (copies image (Wait target)) l c o all }))
       ]
 
-  -- what is left of a turn: all is as before, or it is committed
+  -- what is left of a compaction: all is as before, or it is committed
   turn_kept : (old : List ℕ) (store : StoreValue) (log : LogValue) (command : Command) (from : ℕ) (operation : Operation) (new : List ℕ) (left : Leaves old log operation new) → Describes old log → store.job ≡ Turning command from → OnePage old (target_page old) new → Keeps old new → CutLeaves defaults old store operation new
   turn_kept old store log command from operation new left d e one k = record {
     operates = left.operates;

@@ -1,4 +1,4 @@
--- What an operation of a turn, or of an append, leaves alone.
+-- What an operation of a compaction, or of an append, leaves alone.
 use Rattle.std.proofs.Common.{◌≡◌, ◌∙◌, ℕ, ◌-◌, ◌≤◌, ◌<◌, refl, sym, arith, Bool, true, false, List, Some, inl, inr}
 use Rattle.std.proofs.lemmas.Bool.{cases_lt}
 use Rattle.records.specs.declared.Slot.TheVariants.{Free}
@@ -8,7 +8,7 @@ use Rattle.flash_model.specs.Operations.{OneSlot, OnePage}
 use Rattle.page_turnover.specs.declared.log.stepping.Step.{Step}
 use Rattle.page_turnover.specs.declared.log.stepping.Step.TheVariants.{Idle, Moved, Committed, Failed}
 use Rattle.page_turnover.specs.Value.{LogValue, Task, Rest, Append, Wait, Copy, Seal}
-use Rattle.page_turnover.specs.ties.Log.{Describes}
+use Rattle.page_turnover.specs.representation.Log.{Describes}
 use Rattle.page_turnover.specs.Active.{active, format}
 use Rattle.page_turnover.specs.Words.{IsTail, IsActiveTail, HasRoom}
 use Rattle.page_turnover.specs.Turn.{target_page}
@@ -35,7 +35,7 @@ attempted_in_target ready old slot word Moved new a = made_in_target ready old s
 attempted_in_target ready old slot word Committed new a = made_in_target ready old slot word new (a.done (λ f. cc)).0
 attempted_in_target ready old slot word Failed new a = torn_in_target ready old slot word new (a.torn refl).0
 
--- a turn touches its target alone
+-- a compaction touches its target alone
 abbrev pub IsOfTurn : Task → Type 0
 IsOfTurn (Copy target word) = Unit {0}
 IsOfTurn (Seal target) = Unit {0}

@@ -3,10 +3,10 @@ use Rattle.std.proofs.Common.{◌≡◌, ◌∙◌, ℕ, ◌<◌, refl, sym, tru
 use Rattle.layers.specs.declared.command.Command.{Command}
 use Rattle.layers.specs.Codes.{keys, is_code, DefaultCodes}
 use Rattle.layers.specs.Commands.{command_of}
-use Rattle.layers.specs.Formats.{command_in}
+use Rattle.layers.specs.Formats.{command_by_format}
 use Rattle.layers.specs.Copies.{AreCopies, places}
 use Rattle.layers.specs.Entries.{entry_in, changed}
-use Rattle.layers.specs.Keymaps.{HasEntries, StandsFor}
+use Rattle.layers.specs.Keymaps.{HasEntries, Refines}
 use Rattle.layers.proofs.Copying.{entry-copies}
 use Rattle.layers.proofs.EntryCodes.{entry_in-is_code}
 use Rattle.layers.proofs.LastWriter.{entry-append_command, entry-append_other}
@@ -46,7 +46,7 @@ module _ (defaults : DefaultCodes) where
 
   -- a keymap after a record
   pub keymap_recorded : (old new : List ℕ) (word : ℕ) (command : Command) (before after : List ℕ) → format old ≡ Some 2 → CommitsWord old word new → command_of word ≡ Some command → HasEntries (entries_of defaults old) before
-      → ((number : ℕ) (ws : List ℕ) (w : ℕ) → StandsFor defaults number ws before → command_in number w ≡ Some command → StandsFor defaults number (ws ++ w ∷ []) after) → HasEntries (entries_of defaults new) after
+      → ((number : ℕ) (ws : List ℕ) (w : ℕ) → Refines defaults number ws before → command_by_format number w ≡ Some command → Refines defaults number (ws ++ w ∷ []) after) → HasEntries (entries_of defaults new) after
   keymap_recorded old new word command before after f c r h applies =
       rw (entries_of-format new 2 (c.format_is ∙ f), c.words_are) (applies 2 (words old) word (rw (entries_of-format old 2 f) at h) r)
 
@@ -57,5 +57,5 @@ module _ (defaults : DefaultCodes) where
   keymap_copied entries new keymap f a h = has_same entries (entries_of defaults new) keymap (λ layer key l k. sym (entries_of-copies entries new f a layer key l k)) h
 
   -- a word that is no command is passed over
-  pub stands_other : (number : ℕ) (ws : List ℕ) (word : ℕ) (keymap : List ℕ) → command_in number word ≡ None → StandsFor defaults number ws keymap → StandsFor defaults number (ws ++ word ∷ []) keymap
-  stands_other number ws word keymap e h = has_same (entry_in defaults number ws) (entry_in defaults number (ws ++ word ∷ [])) keymap (λ layer key l k. sym (entry-append_other defaults number ws word layer key e)) h
+  pub refines_other : (number : ℕ) (ws : List ℕ) (word : ℕ) (keymap : List ℕ) → command_by_format number word ≡ None → Refines defaults number ws keymap → Refines defaults number (ws ++ word ∷ []) keymap
+  refines_other number ws word keymap e h = has_same (entry_in defaults number ws) (entry_in defaults number (ws ++ word ∷ [])) keymap (λ layer key l k. sym (entry-append_other defaults number ws word layer key e)) h

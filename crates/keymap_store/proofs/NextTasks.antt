@@ -1,4 +1,4 @@
--- What a turn that waits is given next: the copy after those that it has made, or its seal.
+-- What a compaction that waits is given next: the copy after those that it has made, or its commit header.
 use Rattle.std.proofs.Common.{◌≡◌, ◌∙◌, ℕ, zero, suc, ◌+◌, ◌-◌, ◌/◌, ◌%◌, ◌^◌, ◌≤◌, ◌<◌, refl, sym, arith, true, List, [], ◌∷◌, ◌++◌, length, length-append, get_or, append_assoc, inl, inr}
 use Rattle.std.proofs.lemmas.Bool.{cases_eq, cases_lt, lt-ltb, le-ltb}
 use Rattle.std.proofs.lemmas.List.{append-nil, get_or_append_left}

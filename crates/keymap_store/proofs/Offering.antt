@@ -8,11 +8,11 @@ use Rattle.layers.specs.Keymaps.{HasEntries}
 use Rattle.layers.proofs.Copying.{AreCopies-start, AreCopies-next, AreCopies-end, AreCopies-length}
 use Rattle.page_turnover.specs.declared.log.stepping.Step.{Step}
 use Rattle.page_turnover.specs.declared.log.stepping.Step.TheVariants.{Moved}
-use Rattle.page_turnover.specs.ties.Log.{Describes}
+use Rattle.page_turnover.specs.representation.Log.{Describes}
 use Rattle.page_turnover.specs.Words.{HasRoom}
 use Rattle.page_turnover.specs.Value.{LogValue, Unread, Holds, Task, Rest, Append, Wait, Copy, Seal}
 use Rattle.page_turnover.specs.Turn.{IsWaiting, IsPending, copies, offered, copied, with_copy, with_seal, target_page, next_seq}
-use Rattle.page_turnover.specs.ties.Turn.{UnderWay}
+use Rattle.page_turnover.specs.representation.Turn.{UnderWay}
 use Rattle.page_turnover.specs.Steps.{StepsFor, Steps, Moves, Commits, EndsAs}
 use Rattle.page_turnover.proofs.WordLists.{words_none}
 use Rattle.page_turnover.proofs.Endings.{waiting_count}
@@ -20,9 +20,9 @@ use Rattle.keymap_store.specs.declared.store.Job.{Job}
 use Rattle.keymap_store.specs.declared.store.Job.TheVariants.{Resting, Appending, Turning}
 use Rattle.keymap_store.specs.Keymap.{entries_of}
 use Rattle.keymap_store.specs.Store.{working}
-use Rattle.keymap_store.specs.ties.Store.{OffersBelow, JobIs}
+use Rattle.keymap_store.specs.representation.Store.{OffersBelow, JobIs}
 use Rattle.keymap_store.specs.Next.{all_copies, next_task, with_task}
-use Rattle.keymap_store.specs.ties.Offers.{CanOfferIfWaiting, IsOffered}
+use Rattle.keymap_store.specs.representation.Offers.{CanOfferIfWaiting, IsOffered}
 use Rattle.keymap_store.proofs.NextTasks.{IsAfter, copy_after, no_copy_after, next_task-copy, next_task-seal}
 use Rattle.keymap_store.proofs.Keymaps.{keymap_copied}
 
@@ -41,7 +41,7 @@ seal_pending (Copy target word) w = absurd w
 seal_pending (Seal target) w = absurd w
 
 module _ (defaults : DefaultCodes) where
-  -- the next entry that differs is offered, or the seal where there is none
+  -- the next entry that differs is offered, or the commit header where there is none
   pub offered_next : (entries : ℕ → ℕ → ℕ) (image : List ℕ) (task : Task) (from place word : ℕ) (command : Command) → IsWaiting task → OffersBelow defaults entries from image task → IsNextChanged defaults entries from place command → IsCommand command → word ≡ word_of command → OffersBelow defaults entries (place + 1) image (with_copy task word)
   offered_next entries image Rest from place word command w o n c e = absurd w
   offered_next entries image (Append other) from place word command w o n c e = absurd w
@@ -56,7 +56,7 @@ module _ (defaults : DefaultCodes) where
   sealed_next entries image (Copy target word) from l w o d = absurd w
   sealed_next entries image (Seal target) from l w o d = absurd w
 
-  -- a turn that does not wait has something pending
+  -- a compaction that does not wait has something pending
   pub pending_unless : (entries : ℕ → ℕ → ℕ) (from : ℕ) (image : List ℕ) (task : Task) → OffersBelow defaults entries from image task → (IsWaiting task → ⊥) → IsPending task
   pending_unless entries from image Rest o n = absurd o
   pending_unless entries from image (Append word) o n = absurd o
@@ -105,9 +105,9 @@ module _ (defaults : DefaultCodes) where
       let S : Step → Type 0 = λ s. Steps old before s new after in
       after_move entries from old before before.task new after o (subst S e (ends.done (λ f. cc))) m
 
-  -- a turn's commit makes the copies the words, with room for more
+  -- a compaction's commit makes the copies the words, with room for more
   pub record Committed_turn (new : List ℕ) (keymap : List ℕ) : Type 0 where
-    pub stands : HasEntries (entries_of defaults new) keymap
+    pub refines : HasEntries (entries_of defaults new) keymap
     pub room : HasRoom new
 
   turn_done : (entries : ℕ → ℕ → ℕ) (from : ℕ) (old : List ℕ) (task : Task) (new keymap : List ℕ) → OffersBelow defaults entries from old task → HasEntries entries keymap → Commits old task new → Committed_turn new keymap
@@ -118,14 +118,14 @@ module _ (defaults : DefaultCodes) where
   turn_done entries from old (Seal target) new keymap o h c =
       let few : length (copies old (Seal target)) ≤ places = AreCopies-length defaults entries places (copies old (Seal target)) o in
       record {
-        stands = keymap_copied defaults entries new keymap c.format_is (rw c.words_are o) h;
+        refines = keymap_copied defaults entries new keymap c.format_is (rw c.words_are o) h;
         room = record { page = target_page old; seq = next_seq old; is_active = c.active_is; current = c.format_is; free = c.rest 511 (omega arith) (omega arith) };
       }
 
   pub committed_turn : (entries : ℕ → ℕ → ℕ) (from : ℕ) (old : List ℕ) (task : Task) (new keymap : List ℕ) → OffersBelow defaults entries from old task → HasEntries entries keymap → Commits old task new → Committed_turn new keymap
   committed_turn = turn_done
 
-  -- a new turn has offered nothing
+  -- a new compaction has offered nothing
   pub nothing_offered : (entries : ℕ → ℕ → ℕ) (image : List ℕ) → OffersBelow defaults entries 0 image (Wait Unread)
   nothing_offered entries image = rw (words_none image (target_page image)) (AreCopies-start defaults entries)
 
@@ -168,16 +168,16 @@ module _ (defaults : DefaultCodes) where
   not_waiting_is entries (Copy target word) n = refl
   not_waiting_is entries (Seal target) n = refl
 
-  pub not_waiting_stands : (entries : ℕ → ℕ → ℕ) (image : List ℕ) (log : LogValue) (from : ℕ) → (IsWaiting log.task → ⊥) → Describes image log → OffersBelow defaults entries from image log.task → IsOffered defaults entries image log log from
-  not_waiting_stands entries image log from n d o = record {
+  pub not_waiting_refines : (entries : ℕ → ℕ → ℕ) (image : List ℕ) (log : LogValue) (from : ℕ) → (IsWaiting log.task → ⊥) → Describes image log → OffersBelow defaults entries from image log.task → IsOffered defaults entries image log log from
+  not_waiting_refines entries image log from n d o = record {
     describes = d;
     offers = o;
     pending = pending_unless entries from image log.task o n;
     next = ap (λ (t : Task). with_task log t) (not_waiting_is entries log.task n);
   }
 
-  pub offer_stands : (entries : ℕ → ℕ → ℕ) (image : List ℕ) (log after : LogValue) (from place word : ℕ) (command : Command) → IsWaiting log.task → Describes image log → Describes image after → OffersBelow defaults entries from image log.task → IsNextChanged defaults entries from place command → IsCommand command → after ≡ record log { task = with_copy log.task word } → word ≡ word_of command → IsOffered defaults entries image log after (place + 1)
-  offer_stands entries image log after from place word command w b d o n c a e =
+  pub offer_refines : (entries : ℕ → ℕ → ℕ) (image : List ℕ) (log after : LogValue) (from place word : ℕ) (command : Command) → IsWaiting log.task → Describes image log → Describes image after → OffersBelow defaults entries from image log.task → IsNextChanged defaults entries from place command → IsCommand command → after ≡ record log { task = with_copy log.task word } → word ≡ word_of command → IsOffered defaults entries image log after (place + 1)
+  offer_refines entries image log after from place word command w b d o n c a e =
       let t : after.task ≡ with_copy log.task word = rw a refl in
       let O : Task → Type 0 = λ x. OffersBelow defaults entries (place + 1) image x × IsPending x in
       let s = subst O (sym t) (offered_next entries image log.task from place word command w o n c e, copy_pending log.task word w) in
@@ -188,8 +188,8 @@ module _ (defaults : DefaultCodes) where
         next = a ∙ ap (λ (x : Task). with_task log x) (offered_is entries image log.task from place word command w b.task_is o n e);
       }
 
-  pub seal_stands : (entries : ℕ → ℕ → ℕ) (image : List ℕ) (log after : LogValue) (from : ℕ) → from ≤ places → IsWaiting log.task → Describes image log → Describes image after → OffersBelow defaults entries from image log.task → IsDefaultFrom defaults entries from → after ≡ record log { task = with_seal log.task } → IsOffered defaults entries image log after from
-  seal_stands entries image log after from l w b d o f a =
+  pub seal_refines : (entries : ℕ → ℕ → ℕ) (image : List ℕ) (log after : LogValue) (from : ℕ) → from ≤ places → IsWaiting log.task → Describes image log → Describes image after → OffersBelow defaults entries from image log.task → IsDefaultFrom defaults entries from → after ≡ record log { task = with_seal log.task } → IsOffered defaults entries image log after from
+  seal_refines entries image log after from l w b d o f a =
       let t : after.task ≡ with_seal log.task = rw a refl in
       let O : Task → Type 0 = λ x. OffersBelow defaults entries from image x × IsPending x in
       let s = subst O (sym t) (sealed_next entries image log.task from l w o f, seal_pending log.task w) in

@@ -24,11 +24,11 @@ use Rattle.page_turnover.specs.declared.operation.Operation.TheVariants.{Program
 use Rattle.page_turnover.specs.Active.{active, format}
 use Rattle.page_turnover.specs.Blank.{is_blank}
 use Rattle.page_turnover.specs.Header.{header_word}
-use Rattle.page_turnover.specs.ties.Log.{Describes}
+use Rattle.page_turnover.specs.representation.Log.{Describes}
 use Rattle.page_turnover.specs.Next.{is_ready, turn_operation, append_operation, next_operation}
 use Rattle.page_turnover.specs.Steps.{StepsFor, Steps, IsReady, Keeps, EndsAs}
 use Rattle.page_turnover.specs.Turn.{target_page, next_seq, copied, copies}
-use Rattle.page_turnover.specs.ties.Turn.{UnderWay, TargetIs}
+use Rattle.page_turnover.specs.representation.Turn.{UnderWay, TargetIs}
 use Rattle.page_turnover.specs.Value.{LogValue, Target, Unread, Holds, Task, Rest, Append, Wait, Copy, Seal}
 use Rattle.page_turnover.specs.Words.{FreeFrom, IsBlank, IsTail, HasRoom}
 use Rattle.page_turnover.proofs.Blanks.{is_blank-blank, is_blank-used}
@@ -41,8 +41,8 @@ use Rattle.keymap_store.specs.Keymap.{entries_of}
 use Rattle.keymap_store.specs.Left.{differing, target_of, Needs}
 use Rattle.keymap_store.specs.Next.{all_copies, next_task, with_task, next_operation_of}
 use Rattle.keymap_store.specs.Operations.{tail_up_to, has_room_on, has_room, record_on, erase_if_used, programs_from, header_and_record, turn_and_record, operations_of}
-use Rattle.keymap_store.specs.ties.Rest.{append_rest, erase_rest, copies_rest, turn_rest, rest_for, rest_of, TakesFirst}
-use Rattle.keymap_store.specs.ties.Store.{Mirrors, OffersBelow, IsTurning}
+use Rattle.keymap_store.specs.representation.Rest.{append_rest, erase_rest, copies_rest, turn_rest, rest_for, rest_of, TakesFirst}
+use Rattle.keymap_store.specs.representation.Store.{Mirrors, OffersBelow, IsTurning}
 use Rattle.keymap_store.specs.Value.{StoreValue}
 use Rattle.keymap_store.proofs.Counting.{copies_below-count, differing-is}
 use Rattle.keymap_store.proofs.Elsewhere.{one_tail}

@@ -11,7 +11,7 @@ use Rattle.layers.proofs.CommandWords.{is_code-lt, word_of_command}
 use Rattle.layers.proofs.Copying.{copies_below-zero, copies_below-same, copies_below-other}
 use Rattle.page_turnover.specs.Value.{Task, Rest, Append, Wait, Copy, Seal}
 use Rattle.page_turnover.specs.Turn.{copies, HasShortWord}
-use Rattle.keymap_store.specs.ties.Store.{OffersBelow}
+use Rattle.keymap_store.specs.representation.Store.{OffersBelow}
 
 word_short : (command : Command) → IsCommand command → word_of command < 2 ^ 31
 word_short (SetKey layer key code) is = let small : code < 2 ^ 16 = is_code-lt code is.2 in omega (arith, is.0, is.1, small)
@@ -35,7 +35,7 @@ module _ (defaults : DefaultCodes) where
         rw last (word_short (set_key_at entries place) (omega arith, omega arith, codes place (omega arith))))
   ]
 
-  -- what a turn was offered
+  -- what a compaction was offered
   pub offered_short : (entries : ℕ → ℕ → ℕ) (from : ℕ) (image : List ℕ) (task : Task) → from ≤ places → OffersBelow defaults entries from image task → HasShortWord task
   offered_short entries from image Rest l o = tt
   offered_short entries from image (Append word) l o = absurd o

@@ -9,7 +9,7 @@ use Rattle.page_turnover.specs.declared.operation.Operation.{Operation}
 use Rattle.page_turnover.specs.declared.log.stepping.Step.{Step}
 use Rattle.page_turnover.specs.declared.log.stepping.Step.TheVariants as Steps
 use Rattle.page_turnover.specs.Value.{LogValue, Task, Rest, Append, Wait, Copy, Seal}
-use Rattle.page_turnover.specs.ties.Log.{Describes}
+use Rattle.page_turnover.specs.representation.Log.{Describes}
 use Rattle.page_turnover.specs.Words.{HasRoom}
 use Rattle.page_turnover.specs.Turn.{IsPending, target_page}
 use Rattle.page_turnover.specs.Next.{next_operation, append_operation}
@@ -20,8 +20,8 @@ use Rattle.keymap_store.specs.declared.store.Work.{Work}
 use Rattle.keymap_store.specs.declared.store.Work.TheVariants.{Idle, Working, Settled, Failed}
 use Rattle.keymap_store.specs.Value.{StoreValue}
 use Rattle.keymap_store.specs.Keymap.{entries_of}
-use Rattle.keymap_store.specs.ties.Store.{Mirrors, OffersBelow}
-use Rattle.keymap_store.specs.ties.Offers.{IsOffered}
+use Rattle.keymap_store.specs.representation.Store.{Mirrors, OffersBelow}
+use Rattle.keymap_store.specs.representation.Offers.{IsOffered}
 use Rattle.keymap_store.specs.Next.{next_operation_of}
 use Rattle.keymap_store.specs.Turnovers.{stays, turns, Wears, over, spares, fills}
 use Rattle.keymap_store.specs.Works.{WritesAs, IsPlacedAt, IsTornAt}
@@ -52,7 +52,7 @@ torn_for (Some place) old log command step new d e a s =
     record { page = place.page; tail = place.tail; place = record { seq = place.seq; is_active = held.is_active; is_tail = held.is_tail }; torn = f.0; unread = f.1 }
 
 module _ (defaults : DefaultCodes) where
-  -- the operation of an append, and of a turn that was offered what it wants
+  -- the operation of an append, and of a compaction that was offered what it wants
   pub append_next : (old : List ℕ) (store : StoreValue) (command : Command) → Mirrors defaults old store → store.job ≡ Appending command → next_operation_of defaults old store ≡ next_operation old store.log
   append_next old store command m e = let t = (appending defaults old store command m e).task_is in rw t refl
 
@@ -75,7 +75,7 @@ module _ (defaults : DefaultCodes) where
   pub turn_failed : (old : List ℕ) (store : StoreValue) (log : LogValue) (from : ℕ) (step : Step) (new : List ℕ) → Mirrors defaults old store → IsOffered defaults (entries_of defaults old) old store.log log from → AttemptsStep (next_operation old log) old step new → step ≡ Steps.Failed → AttemptsWork (next_operation_of defaults old store) old Failed new
   turn_failed old store log from step new m o a s = rw (turn_next old store log from o) (attempt_failed (next_operation old log) old step new a s)
 
-  -- a turn that was offered something is at a copy or its seal
+  -- a compaction that was offered something is at a copy or its commit header
   of_turn : (entries : ℕ → ℕ → ℕ) (from : ℕ) (image : List ℕ) (task : Task) → OffersBelow defaults entries from image task → IsPending task → IsOfTurn task
   of_turn entries from image Rest o p = absurd o
   of_turn entries from image (Append word) o p = absurd o

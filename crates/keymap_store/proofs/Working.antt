@@ -3,20 +3,20 @@ use Rattle.std.proofs.Common.{◌≡◌, ℕ, ◌≤◌, List, [], ◌∷◌, �
 use Rattle.layers.specs.Codes.{DefaultCodes}
 use Rattle.layers.specs.declared.command.Command.{Command}
 use Rattle.layers.specs.Commands.{command_of, word_of}
-use Rattle.layers.specs.Formats.{command_in}
+use Rattle.layers.specs.Formats.{command_by_format}
 use Rattle.layers.specs.Copies.{places}
-use Rattle.layers.specs.Keymaps.{StandsFor}
+use Rattle.layers.specs.Keymaps.{Refines}
 use Rattle.layers.proofs.Copying.{AreCopies-length}
 use Rattle.flash_model.specs.Operations.{OnePage}
 use Rattle.page_turnover.specs.declared.log.stepping.Step.{Step}
 use Rattle.page_turnover.specs.declared.log.stepping.Step.TheVariants.{Moved, Committed, Failed}
 use Rattle.page_turnover.specs.Value.{LogValue, Unread, Task, Rest, Append, Wait, Copy, Seal}
 use Rattle.page_turnover.specs.Log.{HasTailRoom}
-use Rattle.page_turnover.specs.ties.Log.{Describes}
+use Rattle.page_turnover.specs.representation.Log.{Describes}
 use Rattle.page_turnover.specs.Words.{HasRoom}
 use Rattle.page_turnover.specs.Usable.{IsUsable}
 use Rattle.page_turnover.specs.Turn.{target_page, copies}
-use Rattle.page_turnover.specs.ties.Turn.{UnderWay}
+use Rattle.page_turnover.specs.representation.Turn.{UnderWay}
 use Rattle.page_turnover.specs.Steps.{Appends, StepsFor, CommitsWord, Commits, EndsAs, Moves}
 use Rattle.page_turnover.proofs.Describing.{tail_room, held_active}
 use Rattle.page_turnover.proofs.Effects.{committed_rests}
@@ -24,20 +24,20 @@ use Rattle.keymap_store.specs.declared.store.Job.{Job}
 use Rattle.keymap_store.specs.declared.store.Job.TheVariants.{Resting, Appending, Turning}
 use Rattle.keymap_store.specs.Value.{StoreValue}
 use Rattle.keymap_store.specs.Keymap.{entries_of}
-use Rattle.keymap_store.specs.ties.Store.{Mirrors, JobIs, IsAppending, IsTurning, OffersBelow}
-use Rattle.keymap_store.specs.ties.Offers.{CanOfferIfWaiting}
+use Rattle.keymap_store.specs.representation.Store.{Mirrors, JobIs, IsAppending, IsTurning, OffersBelow}
+use Rattle.keymap_store.specs.representation.Offers.{CanOfferIfWaiting}
 use Rattle.keymap_store.specs.Turnovers.{Prepares, TurnsOver}
 use Rattle.keymap_store.specs.Works.{IsPlacedAt}
 use Rattle.keymap_store.proofs.Keymaps.{entries_of-keeps, keymap_recorded, keymap_kept}
 use Rattle.keymap_store.proofs.Offering.{few_copies, moved_on, committed_turn, nothing_offered}
 use Rattle.keymap_store.proofs.Elsewhere.{turn_spares, no_room_kept}
 
--- a step of a turn that commits nothing
+-- a step of a compaction that commits nothing
 pub prepares : (old : List ℕ) (before : Task) (new : List ℕ) (after : Task) → Moves old before new after → OnePage old (target_page old) new → Prepares old new
 prepares old before new after m o = record { keeps = m.keeps; elsewhere = o }
 
 module _ (defaults : DefaultCodes) where
-  -- the job of a store that appends, and of one that turns
+  -- the job of a store that appends, and of one that compacts
   pub appending : (image : List ℕ) (store : StoreValue) (command : Command) → Mirrors defaults image store → store.job ≡ Appending command → IsAppending store.log command
   appending image store command m e = rw e at m.job_is
 
@@ -74,7 +74,7 @@ module _ (defaults : DefaultCodes) where
 
   -- the record of a command is appended
   pub appended : (old : List ℕ) (store : StoreValue) (command : Command) (step : Step) (new : List ℕ) (after : LogValue) (keymap : List ℕ) → Mirrors defaults old store → store.job ≡ Appending command → step ≡ Committed → EndsAs old store.log step new after → Commits old store.log.task new
-      → ((number : ℕ) (ws : List ℕ) (word : ℕ) → StandsFor defaults number ws store.keymap → command_in number word ≡ Some command → StandsFor defaults number (ws ++ word ∷ []) keymap) → Mirrors defaults new (record { log = after; keymap = keymap; job = Resting })
+      → ((number : ℕ) (ws : List ℕ) (word : ℕ) → Refines defaults number ws store.keymap → command_by_format number word ≡ Some command → Refines defaults number (ws ++ word ∷ []) keymap) → Mirrors defaults new (record { log = after; keymap = keymap; job = Resting })
   appended old store command step new after keymap m e s ends c applies = record {
     log_is = ends.describes;
     keymap_is = keymap_recorded defaults old new (word_of command) command store.keymap keymap (appending_room old store command m e).current (appended_word old store command new m e c) (appending old store command m e).reads_back m.keymap_is applies;
@@ -89,7 +89,7 @@ module _ (defaults : DefaultCodes) where
     job_is = ends.rests s;
   }
 
-  -- a turn that begins
+  -- a compaction that begins
   pub begins_turn : (image : List ℕ) (store : StoreValue) (command : Command) (log : LogValue) → Mirrors defaults image store → (HasRoom image → ⊥) → Describes image log → log ≡ record store.log { task = Wait Unread } → Mirrors defaults image (record { log = log; keymap = store.keymap; job = Turning command 0 })
   begins_turn image store command log m n d e =
       let t : log.task ≡ Wait Unread = rw e refl in
@@ -100,13 +100,13 @@ module _ (defaults : DefaultCodes) where
         job_is = record { no_room = n; within = omega arith; offers = subst O (sym t) (nothing_offered defaults (entries_of defaults image) image) };
       }
 
-  -- a turn can offer one copy more
+  -- a compaction can offer one copy more
   pub turn_few : (image : List ℕ) (store : StoreValue) (command : Command) (from : ℕ) → Mirrors defaults image store → store.job ≡ Turning command from → CanOfferIfWaiting store.log.task
   turn_few image store command from m e =
       let j = turning image store command from m e in
       few_copies defaults (entries_of defaults image) from image store.log.task j.within m.log_is.task_is j.offers
 
-  -- a turn that goes on
+  -- a compaction that goes on
   pub turn_moves : (old : List ℕ) (store : StoreValue) (command : Command) (from : ℕ) (log : LogValue) (step : Step) (new : List ℕ) (after : LogValue) → Mirrors defaults old store → (HasRoom old → ⊥) → from ≤ places → Describes old log → OffersBelow defaults (entries_of defaults old) from old log.task → step ≡ Moved
       → EndsAs old log step new after → Moves old log.task new after.task → OnePage old (target_page old) new → Mirrors defaults new (record { log = after; keymap = store.keymap; job = Turning command from })
   turn_moves old store command from log step new after m n l d o s ends moves in_target =
@@ -121,7 +121,7 @@ module _ (defaults : DefaultCodes) where
         };
       }
 
-  -- a turn that is committed
+  -- a compaction that is committed
   pub turn_room : (old : List ℕ) (store : StoreValue) (from : ℕ) (log : LogValue) (new : List ℕ) (after : LogValue) → Mirrors defaults old store → OffersBelow defaults (entries_of defaults old) from old log.task → Describes new after → Commits old log.task new → HasTailRoom after
   turn_room old store from log new after m o d c = tail_room new after d (committed_turn defaults (entries_of defaults old) from old log.task new store.keymap o m.keymap_is c).room
 
@@ -131,7 +131,7 @@ module _ (defaults : DefaultCodes) where
       let t : next.task ≡ Append word = rw n refl in
       record {
         log_is = d;
-        keymap_is = (committed_turn defaults (entries_of defaults old) from old log.task new store.keymap o m.keymap_is c).stands;
+        keymap_is = (committed_turn defaults (entries_of defaults old) from old log.task new store.keymap o m.keymap_is c).refines;
         job_is = record { task_is = rw w at t; reads_back = rw w at r };
       }
 
@@ -145,7 +145,7 @@ module _ (defaults : DefaultCodes) where
       let held = held_active old store.log a.place m.log_is a.is_active in
       record { page = a.place.page; tail = a.place.tail; place = record { seq = a.place.seq; is_active = held.is_active; is_tail = held.is_tail }; programs = a.programmed }
 
-  -- the commit of a turn
+  -- the commit of a compaction
   pub turned : (from : ℕ) (old : List ℕ) (task : Task) (new : List ℕ) → (HasRoom old → ⊥) → OffersBelow defaults (entries_of defaults old) from old task → Commits old task new → OnePage old (target_page old) new → TurnsOver defaults old new
   turned from old Rest new n o c p = absurd o
   turned from old (Append word) new n o c p = absurd o

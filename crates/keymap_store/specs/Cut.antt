@@ -1,4 +1,4 @@
--- Believed where this crate is called: what the operation that a store makes next leaves, whole or torn: by a fault, or by
+-- Trusted where this crate is called: what the operation that a store makes next leaves, whole or torn: by a fault, or by
 -- a cut of the power inside it.
 use Rattle.shapes.specs.Shapes.{Bytes}
 use Rattle.std.specs.Prelude.{◌≡◌, [], ◌∷◌}

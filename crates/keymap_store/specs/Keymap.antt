@@ -1,4 +1,4 @@
--- Believed: the keymap of an image.
+-- Trusted: the keymap of an image.
 use Rattle.shapes.specs.Shapes.{Bytes}
 use Rattle.std.specs.Prelude.{◌≡◌, ℕ, ◌<◌, unwrap_or}
 use Rattle.layers.specs.Codes.{layers, keys, DefaultCodes}

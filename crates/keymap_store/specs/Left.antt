@@ -1,4 +1,4 @@
--- Believed: how many flash operations the command that works still needs.
+-- Trusted: how many flash operations the command that works still needs.
 use Rattle.shapes.specs.Shapes.{Bytes}
 use Rattle.std.specs.Prelude.{◌≡◌, ℕ, zero, suc, ◌+◌, ◌-◌, ◌==◌, if◌then◌else◌}
 use Rattle.layers.specs.Codes.{default_at, DefaultCodes}
@@ -12,12 +12,12 @@ use Rattle.keymap_store.specs.declared.store.Job.TheVariants.{Resting, Appending
 use Rattle.keymap_store.specs.Keymap.{entries_of}
 use Rattle.keymap_store.specs.Value.{StoreValue}
 
--- 1 where the target of a turn has to be erased: it was not read yet, and is not blank; else 0
+-- 1 where the target of a compaction has to be erased: it was not read yet, and is not blank; else 0
 unfoldable pub erases_left : Bytes → Target → ℕ
 erases_left image Unread = if is_blank image (target_page image) then 0 else 1
 erases_left image (Holds n) = 0
 
--- what a log knows of the target of its turn
+-- what a log knows of the target of its compaction
 abbrev pub target_of : Task → Target
 target_of (Wait target) = target
 target_of (Copy target word) = target
@@ -36,11 +36,11 @@ module _ (defaults : DefaultCodes) where
   unfoldable pub differing : Bytes → ℕ
   differing image = differing_below (entries_of defaults image) places
 
-  -- a turn needs its erase, the copies that it has not made, and its header; the record comes after it
+  -- a compaction needs its erase, the copies that it has not made, and its header; the record comes after it
   abbrev pub turn_left : Bytes → Target → ℕ
   turn_left image target = erases_left image target + (differing image - copied target) + 2
 
-  -- the operations that a job still needs: none at rest, one for a record that there is room for, else those of a turn with
+  -- the operations that a job still needs: none at rest, one for a record that there is room for, else those of a compaction with
   -- the record after it
   abbrev pub left_for : Bytes → LogValue → Job → ℕ
   left_for image log Resting = 0

@@ -8,4 +8,4 @@ pub mod Left
 pub mod Operations
 pub mod Cut
 pub mod Value
-pub mod ties
+pub mod representation

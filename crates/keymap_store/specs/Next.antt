@@ -1,4 +1,4 @@
--- Believed: the flash operation that a store makes next.
+-- Trusted: the flash operation that a store makes next.
 use Rattle.shapes.specs.Shapes.{Bytes, SlotWords}
 use Rattle.std.specs.Prelude.{ℕ, Option, length, slice_index, nat_lt, if◌then◌else◌}
 use Rattle.layers.specs.Codes.{DefaultCodes}
@@ -11,11 +11,11 @@ use Rattle.keymap_store.specs.Keymap.{entries_of}
 use Rattle.keymap_store.specs.Value.{StoreValue}
 
 module _ (defaults : DefaultCodes) where
-  -- the words that a turn copies: those that set the entries that differ from the default, by rising place
+  -- the words that a compaction copies: those that set the entries that differ from the default, by rising place
   abbrev pub all_copies : (ℕ → ℕ → ℕ) → SlotWords
   all_copies entries = copies_below defaults entries places
 
-  -- a turn that waits gets the copy after those that it has made, and its seal after the last one
+  -- a compaction that waits gets the copy after those that it has made, and its commit header after the last one
   abbrev pub next_task : (ℕ → ℕ → ℕ) → Task → Task
   next_task entries (Wait target) =
       if nat_lt (copied target) (length (all_copies entries)) then Copy target (slice_index (all_copies entries) (copied target))

@@ -1,4 +1,4 @@
--- Believed: the flash operations of a command, as one list, by the flash when the command is accepted.
+-- Trusted: the flash operations of a command, as one list, by the flash when the command is accepted.
 use Rattle.shapes.specs.Shapes.{Bytes, SlotWords}
 use Rattle.std.specs.Prelude.{ℕ, zero, suc, ◌+◌, ◌==◌, ◌&&◌, if◌then◌else◌, Bool, false, Option, Some, None, List, [], ◌∷◌, ◌++◌, length}
 use Rattle.records.specs.Blocks.{is_free}
@@ -44,19 +44,19 @@ abbrev pub programs_from : ℕ → ℕ → SlotWords → List Operation
 programs_from page slot [] = []
 programs_from page slot (word ∷ words) = Program page slot word ∷ programs_from page (suc slot) words
 
--- the header goes to slot 0 of the target of a turn, and the record to the slot after this many copies
+-- the header goes to slot 0 of the target of a compaction, and the record to the slot after this many copies
 abbrev pub header_and_record : Bytes → ℕ → ℕ → List Operation
 header_and_record image copies word =
     Program (target_page image) 0 (header_word 2 (next_seq image)) ∷ Program (target_page image) (suc copies) word ∷ []
 
--- a turn, and the record after it: the target is erased, where it is not blank; the entries that differ from the default are
+-- a compaction, and the record after it: the target is erased, where it is not blank; the entries that differ from the default are
 -- copied, by rising place; the header comes after them
 abbrev pub turn_and_record : Bytes → SlotWords → ℕ → List Operation
 turn_and_record image copies word =
     erase_if_used image (target_page image) ++ (programs_from (target_page image) 1 copies ++ header_and_record image (length copies) word)
 
 module _ (defaults : DefaultCodes) where
-  -- with room the record alone; else a turn before it
+  -- with room the record alone; else a compaction before it
   unfoldable pub operations_of : Bytes → Command → List Operation
   operations_of image command =
       if has_room image then record_on image (active image) (word_of command)

@@ -1,4 +1,4 @@
--- Believed where this crate is called: the command that works.
+-- Trusted where this crate is called: the command that works.
 use Rattle.std.specs.Prelude.{Option, None, Some}
 use Rattle.layers.specs.declared.command.Command.{Command}
 use Rattle.keymap_store.specs.declared.store.Job.{Job}

@@ -1,4 +1,4 @@
--- Believed: when a command is taken, and why it is refused.
+-- Trusted: when a command is taken, and why it is refused.
 use Rattle.shapes.specs.Shapes.{Bytes}
 use Rattle.std.specs.Prelude.{◌≡◌, ◌-◌, ◌^◌, ◌⊎◌, ℕ, None, Some, Result, Ok, Err, IsSome}
 use Rattle.layers.specs.Codes.{DefaultCodes}
@@ -27,7 +27,7 @@ pub record IsWorn (image : Bytes) : Type 0 where
   pub last : active image ≡ Some (page, 2 ^ 28 - 1)
   pub full : HasRoom image → ⊥
 
--- room, or a turn that makes it
+-- room, or a compaction that makes it
 abbrev pub HasPlace : Bytes → Type 0
 HasPlace image = HasRoom image ⊎ ((HasRoom image → ⊥) × CanTurn image)
 

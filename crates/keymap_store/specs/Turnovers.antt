@@ -1,4 +1,4 @@
--- Believed: what the operations of a store do to the active page.
+-- Trusted: what the operations of a store do to the active page.
 use Rattle.shapes.specs.Shapes.{Bytes}
 use Rattle.std.specs.Prelude.{◌≡◌, ℕ, suc, ◌<◌, Some}
 use Rattle.layers.specs.Codes.{DefaultCodes}
@@ -12,7 +12,7 @@ use Rattle.page_turnover.specs.Turn.{target_page, next_seq}
 use Rattle.page_turnover.specs.Steps.{Keeps}
 use Rattle.keymap_store.specs.Keymap.{entries_of}
 
--- words, format and active page stay, and no page but the target of a turn is touched
+-- words, format and active page stay, and no page but the target of a compaction is touched
 pub record Prepares (old new : Bytes) : Type 0 where
   pub keeps : Keeps old new
   pub elsewhere : OnePage old (target_page old) new
@@ -28,7 +28,7 @@ module _ (defaults : DefaultCodes) where
     pub free : FreeFrom new (target_page old) 385
     pub elsewhere : OnePage old (target_page old) new
 
-  -- a step of a turn
+  -- a step of a compaction
   pub data Turns (old new : Bytes) : Type 0 where
     stays : Prepares old new → Turns old new
     turns : TurnsOver old new → Turns old new
@@ -52,7 +52,7 @@ module _ (defaults : DefaultCodes) where
     spares : Spares old new → Wears old new
     fills : Fills old new → Wears old new
 
--- operations one after another, none of which turns over, and how many of them may touch the tail of the active page
+-- operations one after another, none of which is of a compaction, and how many of them may touch the tail of the active page
 pub data Follows (old : Bytes) : ℕ → Bytes → Type 0 where
   begin : Follows old 0 old
   spare : (n : ℕ) (image new : Bytes) → Follows old n image → Spares image new → Follows old n new

@@ -1,4 +1,4 @@
--- Believed where this crate is called: the parts of a store.
+-- Trusted where this crate is called: the parts of a store.
 use Rattle.shapes.specs.Shapes.{KeyCodes}
 use Rattle.page_turnover.specs.Value.{LogValue}
 use Rattle.keymap_store.specs.declared.store.Job.{Job}

@@ -1,4 +1,4 @@
--- Believed: what the answers of `work` mean.
+-- Trusted: what the answers of `work` mean.
 use Rattle.shapes.specs.Shapes.{Bytes}
 use Rattle.std.specs.Prelude.{◌≡◌, ◌≢◌, ◌+◌, ◌≤◌, ◌↔◌, ℕ, [], ◌∷◌, ◌++◌, Option, None, Some, IsSome}
 use Rattle.layers.specs.Codes.{DefaultCodes}
@@ -21,7 +21,7 @@ use Rattle.keymap_store.specs.declared.store.Work.{Work}
 use Rattle.keymap_store.specs.declared.store.Work.TheVariants.{Idle, Working, Settled, Failed}
 use Rattle.keymap_store.specs.Value.{StoreValue}
 use Rattle.keymap_store.specs.Store.{working}
-use Rattle.keymap_store.specs.ties.Store.{Mirrors}
+use Rattle.keymap_store.specs.representation.Store.{Mirrors}
 use Rattle.keymap_store.specs.Next.{next_operation_of}
 use Rattle.keymap_store.specs.Turnovers.{Turns, Wears}
 
@@ -76,7 +76,7 @@ pub record IsTornAt (old : Bytes) (command : Command) (new : Bytes) : Type 0 whe
   pub torn : MayProgram old page tail (encoded (word_of command)) new
   pub unread : slot_of (slot_at new page tail) ≡ Good (word_of command) → ⊥
 
--- a fault where the command had room leaves its record torn; one in a turn leaves all pages but the target
+-- a fault where the command had room leaves its record torn; one in a compaction leaves all pages but the target
 abbrev pub FailsFor : Bytes → Job → Bytes → Type 0
 FailsFor old Resting new = ⊥
 FailsFor old (Appending command) new = IsTornAt old command new
@@ -104,7 +104,7 @@ module _ (defaults : DefaultCodes) where
   WorksAs old before Settled new after = Settles before after
   WorksAs old before Failed new after = Fails before after
 
-  -- what each answer says of the flash: a step of a turn, the record as the last word in the tail slot, or a fault after which
+  -- what each answer says of the flash: a step of a compaction, the record as the last word in the tail slot, or a fault after which
   -- words, format and active page are as before; and what the operation does to the active page
   pub record WritesAs (old : Bytes) (job : Job) (work : Work) (new : Bytes) : Type 0 where
     pub turns : work ≡ Working → Turns defaults old new

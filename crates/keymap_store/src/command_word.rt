@@ -16,7 +16,7 @@ impl Model for CommandWord {
     ghost use Rattle.std.specs.Prelude.{◌≡◌};
     ghost use Rattle.layers.specs.Commands.{word_of, IsCommand};
     ghost use Rattle.layers.specs.declared.command.Command.{Command};
-    ghost use Rattle.layers.specs.ties.CommandWords.{command_at};
+    ghost use Rattle.layers.specs.representation.CommandWords.{command_at};
 
     ghost Value = { Command };
 

@@ -5,15 +5,15 @@ ghost use Rattle.flash_model.specs.Image.{page_count};
 ghost use Rattle.layers.specs.declared.code.TheConstants.{ENTRIES};
 ghost use Rattle.layers.specs.Commands.{IsCommand};
 ghost use Rattle.layers.specs.declared.command.Command.{Command};
-ghost use Rattle.layers.specs.Formats.{command_in};
-ghost use Rattle.layers.specs.Keymaps.{HasEntries, StandsFor};
+ghost use Rattle.layers.specs.Formats.{command_by_format};
+ghost use Rattle.layers.specs.Keymaps.{HasEntries, Refines};
 ghost use Rattle.page_turnover.specs.Active.{format};
 ghost use Rattle.page_turnover.specs.Turn.{IsPending};
 ghost use Rattle.page_turnover.specs.Usable.{IsUsable};
-ghost use Rattle.page_turnover.specs.ties.Log.{Describes};
+ghost use Rattle.page_turnover.specs.representation.Log.{Describes};
 ghost use Rattle.keymap_store.specs.Keymap.{entries_of};
-ghost use Rattle.keymap_store.specs.ties.Store.{OffersBelow};
-ghost use Rattle.keymap_store.specs.ties.Offers.{CanOfferIfWaiting, IsOffered};
+ghost use Rattle.keymap_store.specs.representation.Store.{OffersBelow};
+ghost use Rattle.keymap_store.specs.representation.Offers.{CanOfferIfWaiting, IsOffered};
 ghost use Rattle.keymap_store.specs.Left.{target_of};
 ghost use Rattle.keymap_store.specs.declared.store.Job.{Job};
 ghost use Rattle.keymap_store.specs.declared.store.Taken.{Taken};
@@ -68,7 +68,7 @@ pub enum Job {
     Resting,
     /// The append of a command's record.
     Appending(CommandWord),
-    /// A turn to a page with the entries that differ from the default, which makes room for the
+    /// A compaction to a page with the entries that differ from the default, which makes room for the
     /// command; those below a place were offered.
     Turning { command: CommandWord, from: u16 },
 }
@@ -94,13 +94,13 @@ impl<D: Defaults> Model for StoreOf<D> {
 
 impl<D: Defaults> StoreOf<D> {
     ghost use Rattle.keymap_store.specs.Store.{working};
-    ghost use Rattle.keymap_store.specs.ties.Store.{Mirrors};
+    ghost use Rattle.keymap_store.specs.representation.Store.{Mirrors};
     ghost use Rattle.keymap_store.specs.Submits.{Submits};
     ghost use Rattle.keymap_store.specs.Next.{next_operation_of};
     ghost use Rattle.keymap_store.specs.Works.{WorkLeaves, CountsDown};
     ghost use Rattle.keymap_store.specs.Left.{left, Needs};
     ghost use Rattle.keymap_store.specs.Operations.{operations_of};
-    ghost use Rattle.keymap_store.specs.ties.Rest.{rest_of, TakesFirst};
+    ghost use Rattle.keymap_store.specs.representation.Rest.{rest_of, TakesFirst};
     ghost use Rattle.page_turnover.specs.declared.operation.Operation.{Operation};
     ghost use Rattle.page_turnover.specs.Next.{on_flash};
     ghost use Rattle.page_turnover.specs.Steps.{CountsAs};
@@ -134,7 +134,7 @@ impl<D: Defaults> StoreOf<D> {
     /// The keymap: that of the flash's image.
     pub fn keymap(&self) -> &KeymapOf<D>
         ensures held { result.now ≡ self.now.keymap }
-        ensures stands { (image : List ℕ) → Mirrors D.defaults image self.now → HasEntries (entries_of D.defaults image) result.now }
+        ensures refines { (image : List ℕ) → Mirrors D.defaults image self.now → HasEntries (entries_of D.defaults image) result.now }
     {
         &self.keymap
     }
@@ -206,7 +206,7 @@ impl<D: Defaults> StoreOf<D> {
     /// Makes the one flash operation that the working command needs next, or none where no command
     /// works. The flash has to be the one that the store was mounted on.
     ///
-    /// With room the command's record is appended. Without room a turn comes first, whose copies are
+    /// With room the command's record is appended. Without room a compaction comes first, whose copies are
     /// the entries that differ from the default, by rising place, in format 2. `Failed` is answered
     /// where the flash answers a fault and the operation's slot or page does not read as intended, and
     /// only there. Each call that answers Working leaves one operation less to do, and Settled is the
@@ -261,7 +261,7 @@ impl<D: Defaults> StoreOf<D> {
         }
     }
 
-    /// Goes on with a turn; its commit makes room for the command.
+    /// Goes on with a compaction; its commit makes room for the command.
     fn turn<F: NorFlash>(&mut self, flash: &mut F, command: CommandWord, from: u16) -> Work
         requires mirrors { Mirrors D.defaults (F.image flash.old) self.old }
         requires job { self.old.job ≡ Job.Turning command from }
@@ -293,7 +293,7 @@ impl<D: Defaults> StoreOf<D> {
     }
 }
 
-/// Has a turn look for its next entry from this place on, where the job lies.
+/// Has a compaction look for its next entry from this place on, where the job lies.
 #[inline(always)]
 fn go_on(job: &mut Job, from: u16)
     ensures { (command : Command) (before : ℕ) → job.old ≡ Job.Turning command before → job.new ≡ Job.Turning command from }
@@ -303,12 +303,12 @@ fn go_on(job: &mut Job, from: u16)
     }
 }
 
-/// Offers a waiting turn the next entry at or after a place that differs from the default, or its
-/// seal where there is none, and says from which place on the next one is looked for.
+/// Offers a waiting compaction the next entry at or after a place that differs from the default, or its
+/// commit header where there is none, and says from which place on the next one is looked for.
 fn offer_next<D: Defaults>(log: &mut Log, keymap: &KeymapOf<D>, from: u16) -> u16
     requires few { CanOfferIfWaiting log.old.task }
     requires within { from ≤ ENTRIES }
-    ensures stands { (image : List ℕ) (entries : ℕ → ℕ → ℕ) → HasEntries entries keymap.now → Describes image log.old → OffersBelow D.defaults entries from image log.old.task
+    ensures refines { (image : List ℕ) (entries : ℕ → ℕ → ℕ) → HasEntries entries keymap.now → Describes image log.old → OffersBelow D.defaults entries from image log.old.task
         → IsOffered D.defaults entries image log.old log.new result }
     ensures within { result ≤ ENTRIES }
     ensures target { target_of log.new.task ≡ target_of log.old.task }
@@ -332,20 +332,20 @@ fn offer_next<D: Defaults>(log: &mut Log, keymap: &KeymapOf<D>, from: u16) -> u1
 /// Takes the words of a log into the default keymap: it is then that of the flash's image.
 fn take_words<D: Defaults, F: NorFlash>(keymap: &mut KeymapOf<D>, log: &Log, flash: &F)
     requires describes { Describes (F.image flash.now) log.now }
-    requires standard { (format : ℕ) → StandsFor D.defaults format [] keymap.old }
+    requires standard { (format : ℕ) → Refines D.defaults format [] keymap.old }
     ensures { HasEntries (entries_of D.defaults (F.image flash.now)) keymap.new }
 {
     let format = log.format();
     for word in log.words(flash) {
-        if let Some(command) = command_in(format, word) {
+        if let Some(command) = command_by_format(format, word) {
             keymap.apply(command);
         }
     }
 }
 
 /// The command that a word stands for on a page of this format.
-fn command_in(format: Option<u8>, word: u32) -> Option<Command>
-    ensures { result ≡ command_in (unwrap_or format 2) word }
+fn command_by_format(format: Option<u8>, word: u32) -> Option<Command>
+    ensures { result ≡ command_by_format (unwrap_or format 2) word }
 {
     match format {
         Some(1) => Command::from_format_1(word),

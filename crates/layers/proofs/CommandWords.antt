@@ -5,7 +5,7 @@ use Rattle.std.proofs.lemmas.Bool.Decides.{nat_tests}
 use Rattle.std.proofs.lemmas.Nat.{and_mask}
 use Rattle.layers.specs.Codes.{layers, keys, is_between, is_code}
 use Rattle.layers.specs.Commands.{IsCommand, unused_is_zero, command_read, command_with, command_of, word_of, word_with}
-use Rattle.layers.specs.ties.CommandWords.{command_at}
+use Rattle.layers.specs.representation.CommandWords.{command_at}
 use Rattle.std.specs.Result.{result_ok}
 use Rattle.layers.specs.declared.code.KeymapError.TheVariants.{BadOperation, BadLayer, BadKey, BadCode}
 use Rattle.layers.specs.declared.command.Command.{Command}

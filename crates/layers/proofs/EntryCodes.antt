@@ -4,7 +4,7 @@ use Rattle.std.proofs.Common.{◌≡◌, ◌∙◌, ℕ, ◌<◌, ◌==◌, ◌&
 use Rattle.std.specs.Option.{option_and_then}
 use Rattle.layers.specs.Codes.{keys, is_code, default_code, DefaultCodes}
 use Rattle.layers.specs.Commands.{IsCommand, command_of}
-use Rattle.layers.specs.Formats.{word_of_format_1, command_of_format_1, command_in}
+use Rattle.layers.specs.Formats.{word_of_format_1, command_of_format_1, command_by_format}
 use Rattle.layers.specs.Entries.{written, last_written, changed, commands_in, entry_in, written_by_word}
 use Rattle.layers.specs.declared.command.Command.{Command}
 use Rattle.layers.specs.declared.command.Command.TheVariants.{SetKey, ResetLayer, ResetAll}
@@ -25,8 +25,8 @@ in_format true word command e = of_format_1 word command e
 in_format false word command e = (word_of_command word command e).0
 
 -- what a word stands for is a command
-pub command_in-is_command : (format word : ℕ) (command : Command) → command_in format word ≡ Some command → IsCommand command
-command_in-is_command format word command e = in_format (format == 1) word command e
+pub command_by_format-is_command : (format word : ℕ) (command : Command) → command_by_format format word ≡ Some command → IsCommand command
+command_by_format-is_command format word command e = in_format (format == 1) word command e
 
 some_code : (x y : ℕ) → Some x ≡ Some y → is_code x ≡ true → is_code y ≡ true
 some_code x y e c = let s : x ≡ y = cc in rw (← s) c
@@ -55,7 +55,7 @@ module _ (defaults : DefaultCodes) where
   last_written-is_code format (word ∷ later) layer key code w e =
       by_either (last_written defaults (commands_in format later) layer key) (written_by_word defaults format word layer key) code
       (λ c f. last_written-is_code format later layer key c w f)
-      (λ c f. by_command (command_in format word) layer key c w (λ command g. command_in-is_command format word command g) f)
+      (λ c f. by_command (command_by_format format word) layer key c w (λ command g. command_by_format-is_command format word command g) f)
       (sym (last_written-word defaults format word later layer key) ∙ e)
 
   default_or : (o : Option ℕ) (layer key : ℕ) → key < keys → ((c : ℕ) → o ≡ Some c → is_code c ≡ true) → is_code (unwrap_or o (default_code defaults layer key)) ≡ true

@@ -6,7 +6,7 @@ use Rattle.std.proofs.lemmas.List.{get_or_default, get_or-set_same, get_or-set_o
 use Rattle.layers.specs.Codes.{keys, none, transparent, activates}
 use Rattle.layers.specs.Keymaps.{code_at}
 use Rattle.layers.specs.Held.{any_below, passes, any_has, is_active, counts, resolved, code, HeldCall, Press, Release}
-use Rattle.layers.specs.ties.HeldStands.{HeldValue, kept, with_names, HeldStandsFor, Puts}
+use Rattle.layers.specs.representation.HeldRelation.{HeldValue, kept, with_names, HeldRefines, Puts}
 use Rattle.layers.specs.Usages.{has_bit, IsNext, PassesNoneFrom}
 use Rattle.layers.specs.Resolved.{SomeHas, IsHighest, IsTransparent}
 
@@ -92,18 +92,18 @@ kept-other : (codes other_codes held : List ℕ) (key : ℕ) → get_or codes ke
 unfolding kept
 kept-other codes other_codes held key e = rw e refl
 
-pub stands_new : (value : HeldValue) → ((key : ℕ) → has_bit 32 value.held key ≡ false) → HeldStandsFor [] value
+pub refines_new : (value : HeldValue) → ((key : ℕ) → has_bit 32 value.held key ≡ false) → HeldRefines [] value
 unfolding code
-stands_new value z = record { each = λ key l. kept-clear value.codes value.held key (z key) }
+refines_new value z = record { each = λ key l. kept-clear value.codes value.held key (z key) }
 
-pub stands_named : (past : List HeldCall) (value : HeldValue) → HeldStandsFor past value → HeldStandsFor past (with_names value)
-stands_named past value h = record { each = h.each }
+pub refines_named : (past : List HeldCall) (value : HeldValue) → HeldRefines past value → HeldRefines past (with_names value)
+refines_named past value h = record { each = h.each }
 
-pub stands_released : (past : List HeldCall) (codes held after : List ℕ) (old new : Bool) (key : ℕ)
+pub refines_released : (past : List HeldCall) (codes held after : List ℕ) (old new : Bool) (key : ℕ)
     → ((other : ℕ) → has_bit 32 after other ≡ (not (key == other) && has_bit 32 held other))
-    → HeldStandsFor past (record { codes = codes; held = held; named = old }) → HeldStandsFor (Release key ∷ past) (record { codes = codes; held = after; named = new })
+    → HeldRefines past (record { codes = codes; held = held; named = old }) → HeldRefines (Release key ∷ past) (record { codes = codes; held = after; named = new })
 unfolding code
-stands_released past codes held after old new key r h = record {
+refines_released past codes held after old new key r h = record {
   each = λ other m. elim (cases_eq key other) [
     | inl e ↦ rw (eq-eqb key other e) (kept-clear codes after other (r other ∙ rw (eq-eqb key other e) refl))
     | inr d ↦ rw (ne_eqb key other d) (kept-same codes after held other (r other ∙ rw (ne_eqb key other d) refl) ∙ h.each other m)
@@ -116,9 +116,9 @@ is_none-some None false e = cc
 is_none-some (Some x) true e = cc
 is_none-some (Some x) false e = refl
 
-pub stands_pressed_again : (past : List HeldCall) (value : HeldValue) (keymap : List ℕ) (key : ℕ) → key < keys → is_some (kept value.codes value.held key) ≡ true → HeldStandsFor past value → HeldStandsFor (Press keymap key ∷ past) value
+pub refines_pressed_again : (past : List HeldCall) (value : HeldValue) (keymap : List ℕ) (key : ℕ) → key < keys → is_some (kept value.codes value.held key) ≡ true → HeldRefines past value → HeldRefines (Press keymap key ∷ past) value
 unfolding code
-stands_pressed_again past value keymap key l held h = record {
+refines_pressed_again past value keymap key l held h = record {
   each = λ other m. elim (cases_eq key other) [
     | inl e ↦ (let t : is_none (code past other) ≡ false = is_none-some (code past other) false (rw (← h.each other m, ← e) held) in
         rw (eq-eqb key other e, t) (h.each other m))
@@ -126,10 +126,10 @@ stands_pressed_again past value keymap key l held h = record {
   ];
 }
 
-pub stands_put : (past : List HeldCall) (old new : HeldValue) (keymap : List ℕ) (key : ℕ) → key < keys → is_some (kept old.codes old.held key) ≡ false
-    → Puts old new key (resolved (code_at keymap) (kept old.codes old.held) key) → HeldStandsFor past old → HeldStandsFor (Press keymap key ∷ past) new
+pub refines_put : (past : List HeldCall) (old new : HeldValue) (keymap : List ℕ) (key : ℕ) → key < keys → is_some (kept old.codes old.held key) ≡ false
+    → Puts old new key (resolved (code_at keymap) (kept old.codes old.held) key) → HeldRefines past old → HeldRefines (Press keymap key ∷ past) new
 unfolding code
-stands_put past old new keymap key l free p h = record {
+refines_put past old new keymap key l free p h = record {
   each = λ other m. p.each other ∙ elim (cases_eq key other) [
     | inl f ↦ (let t : is_none (code past key) ≡ true = is_none-some (code past key) true (rw (← h.each key l) free) in
         rw (← f, eq-eqb key key refl, t)

@@ -2,7 +2,7 @@
 use Rattle.std.specs.Option.{option_or}
 use Rattle.std.proofs.Common.{◌≡◌, ℕ, ◌<◌, Option, Some, None, suc, arith, unwrap_or, List, [], ◌∷◌, ◌++◌, refl, ap, sym, ◌∙◌}
 use Rattle.layers.specs.Codes.{layers, keys, default_code, DefaultCodes}
-use Rattle.layers.specs.Formats.{command_in}
+use Rattle.layers.specs.Formats.{command_by_format}
 use Rattle.layers.specs.Entries.{written, last_written, changed, commands_in, entry_in, written_by_word, NoneWrites, ChangesNothing}
 use Rattle.layers.specs.declared.command.Command.{Command}
 
@@ -22,18 +22,18 @@ pub commands_in-nil : (format : ℕ) → commands_in format [] ≡ []
 unfolding commands_in
 commands_in-nil format = refl
 
-pub commands_in-command : (format : ℕ) (word : ℕ) (words : List ℕ) (command : Command) → command_in format word ≡ Some command → commands_in format (word ∷ words) ≡ command ∷ commands_in format words
+pub commands_in-command : (format : ℕ) (word : ℕ) (words : List ℕ) (command : Command) → command_by_format format word ≡ Some command → commands_in format (word ∷ words) ≡ command ∷ commands_in format words
 unfolding commands_in
 commands_in-command format word words command e = rw e refl
 
-pub commands_in-other : (format : ℕ) (word : ℕ) (words : List ℕ) → command_in format word ≡ None → commands_in format (word ∷ words) ≡ commands_in format words
+pub commands_in-other : (format : ℕ) (word : ℕ) (words : List ℕ) → command_by_format format word ≡ None → commands_in format (word ∷ words) ≡ commands_in format words
 unfolding commands_in
 commands_in-other format word words e = rw e refl
 
 commands_in-cons : (format : ℕ) (word : ℕ) (xs ys : List ℕ) → commands_in format (xs ++ ys) ≡ commands_in format xs ++ commands_in format ys → commands_in format ((word ∷ xs) ++ ys) ≡ commands_in format (word ∷ xs) ++ commands_in format ys
-commands_in-cons format word xs ys h = by_option (command_in format word) refl
+commands_in-cons format word xs ys h = by_option (command_by_format format word) refl
   where
-    by_option : (o : Option Command) → command_in format word ≡ o → commands_in format (word ∷ (xs ++ ys)) ≡ commands_in format (word ∷ xs) ++ commands_in format ys
+    by_option : (o : Option Command) → command_by_format format word ≡ o → commands_in format (word ∷ (xs ++ ys)) ≡ commands_in format (word ∷ xs) ++ commands_in format ys
     by_option None e = commands_in-other format word (xs ++ ys) e ∙ h ∙ ap (λ (cs : List Command). cs ++ commands_in format ys) (sym (commands_in-other format word xs e))
     by_option (Some c) e = commands_in-command format word (xs ++ ys) c e ∙ ap (λ (cs : List Command). c ∷ cs) h ∙ ap (λ (cs : List Command). cs ++ commands_in format ys) (sym (commands_in-command format word xs c e))
 
@@ -83,12 +83,12 @@ module _ (defaults : DefaultCodes) where
       rw (commands_in-append format xs ys) (changed-append (default_code defaults) (commands_in format xs) (commands_in format ys) layer key)
 
   -- one word more
-  pub entry-append_command : (format : ℕ) (words : List ℕ) (word : ℕ) (command : Command) (layer key : ℕ) → command_in format word ≡ Some command → entry_in defaults format (words ++ word ∷ []) layer key ≡ changed defaults (entry_in defaults format words) (command ∷ []) layer key
+  pub entry-append_command : (format : ℕ) (words : List ℕ) (word : ℕ) (command : Command) (layer key : ℕ) → command_by_format format word ≡ Some command → entry_in defaults format (words ++ word ∷ []) layer key ≡ changed defaults (entry_in defaults format words) (command ∷ []) layer key
   entry-append_command format words word command layer key e =
       entry-append format words (word ∷ []) layer key
       ∙ ap (λ (cs : List Command). changed defaults (entry_in defaults format words) cs layer key) (commands_in-command format word [] command e ∙ ap (λ (cs : List Command). command ∷ cs) (commands_in-nil format))
 
-  pub entry-append_other : (format : ℕ) (words : List ℕ) (word : ℕ) (layer key : ℕ) → command_in format word ≡ None → entry_in defaults format (words ++ word ∷ []) layer key ≡ entry_in defaults format words layer key
+  pub entry-append_other : (format : ℕ) (words : List ℕ) (word : ℕ) (layer key : ℕ) → command_by_format format word ≡ None → entry_in defaults format (words ++ word ∷ []) layer key ≡ entry_in defaults format words layer key
   entry-append_other format words word layer key e =
       entry-append format words (word ∷ []) layer key
       ∙ ap (λ (cs : List Command). changed defaults (entry_in defaults format words) cs layer key) (commands_in-other format word [] e ∙ commands_in-nil format)
@@ -101,9 +101,9 @@ module _ (defaults : DefaultCodes) where
   -- what is written by words, the first of them apart
   pub last_written-word : (format : ℕ) (word : ℕ) (later : List ℕ) (layer key : ℕ) → last_written defaults (commands_in format (word ∷ later)) layer key ≡ option_or (last_written defaults (commands_in format later) layer key) (written_by_word defaults format word layer key)
   unfolding last_written
-  last_written-word format word later layer key = by_option (command_in format word) refl
+  last_written-word format word later layer key = by_option (command_by_format format word) refl
     where
-      by_option : (o : Option Command) → command_in format word ≡ o → last_written defaults (commands_in format (word ∷ later)) layer key ≡ option_or (last_written defaults (commands_in format later) layer key) (written_by_word defaults format word layer key)
+      by_option : (o : Option Command) → command_by_format format word ≡ o → last_written defaults (commands_in format (word ∷ later)) layer key ≡ option_or (last_written defaults (commands_in format later) layer key) (written_by_word defaults format word layer key)
       by_option None e = rw (commands_in-other format word later e, e) (sym (option_or-none (last_written defaults (commands_in format later) layer key)))
       by_option (Some c) e = rw (commands_in-command format word later c e, e) refl
 

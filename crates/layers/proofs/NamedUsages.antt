@@ -5,7 +5,7 @@ use Rattle.std.proofs.lemmas.Bool.{cases_eq, cases_lt, eq-eqb, ne_eqb}
 use Rattle.std.proofs.lemmas.List.{get_or-replicate, get_or_past}
 use Rattle.layers.specs.Codes.{keys, activates, names_key_usage, names_consumer}
 use Rattle.layers.specs.Held.{any_below, passes, any_has}
-use Rattle.layers.specs.ties.HeldStands.{AreNamed}
+use Rattle.layers.specs.representation.HeldRelation.{AreNamed}
 use Rattle.layers.specs.Usages.{UsageSets, has_key, has_consumer}
 use Rattle.layers.proofs.HeldKeys.{any_below-same}
 

@@ -5,9 +5,9 @@ use Rattle.std.proofs.lemmas.Bool.{cases_eq, cases_lt, eq-eqb, ne_eqb}
 use Rattle.std.proofs.lemmas.List.{get_or_default, get_or-set_same, get_or-set_other, length-set}
 use Rattle.layers.specs.Codes.{layers, keys, transparent, default_code, default_at, DefaultCodes}
 use Rattle.layers.specs.Standard.{standard}
-use Rattle.layers.specs.Formats.{command_in}
+use Rattle.layers.specs.Formats.{command_by_format}
 use Rattle.layers.specs.Entries.{written, changed, entry_in, ChangesSome, ChangesNothing}
-use Rattle.layers.specs.Keymaps.{place_of, code_at, HasEntries, StandsFor}
+use Rattle.layers.specs.Keymaps.{place_of, code_at, HasEntries, Refines}
 use Rattle.layers.specs.declared.command.Command.{Command}
 use Rattle.layers.specs.declared.command.Command.TheVariants.{SetKey, ResetLayer, ResetAll}
 use Rattle.layers.proofs.LastWriter.{changed-one, changed-same, entry-append_command, entry-nil}
@@ -42,8 +42,8 @@ module _ (defaults : DefaultCodes) where
     each = λ layer key l k. w.each layer key l k ∙ rw (h.each layer key l k) (sym (changed-one defaults entries command layer key));
   }
 
-  pub stands_changed : (command : Command) (old new : List ℕ) (format : ℕ) (words : List ℕ) (word : ℕ) → Writes command old new → StandsFor defaults format words old → command_in format word ≡ Some command → StandsFor defaults format (words ++ word ∷ []) new
-  stands_changed command old new format words word w h e =
+  pub refines_changed : (command : Command) (old new : List ℕ) (format : ℕ) (words : List ℕ) (word : ℕ) → Writes command old new → Refines defaults format words old → command_by_format format word ≡ Some command → Refines defaults format (words ++ word ∷ []) new
+  refines_changed command old new format words word w h e =
       has_same (changed defaults (entry_in defaults format words) (command ∷ [])) (entry_in defaults format (words ++ word ∷ [])) new
       (λ layer key l k. sym (entry-append_command defaults format words word command layer key e))
       (has_changed (entry_in defaults format words) command old new w h)
@@ -95,8 +95,8 @@ module _ (defaults : DefaultCodes) where
     each = λ layer key m j. inside (place_of layer key) (omega arith) ∙ default_at-place_of layer key j;
   }
 
-  pub stands_at_first : (new : List ℕ) → HasEntries (default_code defaults) new → (format : ℕ) → StandsFor defaults format [] new
-  stands_at_first new h format = has_same (default_code defaults) (entry_in defaults format []) new (λ layer key l k. sym (entry-nil defaults format layer key)) h
+  pub refines_at_first : (new : List ℕ) → HasEntries (default_code defaults) new → (format : ℕ) → Refines defaults format [] new
+  refines_at_first new h format = has_same (default_code defaults) (entry_in defaults format []) new (λ layer key l k. sym (entry-nil defaults format layer key)) h
 
   -- what a command changes rests on the entries alone
   pub changes_by_entries : (entries : ℕ → ℕ → ℕ) (keymap : List ℕ) (command : Command) (answer : Bool) → HasEntries entries keymap

@@ -1,4 +1,4 @@
--- Believed: the codes of a keymap, and the code that each key has at first.
+-- Trusted: the codes of a keymap, and the code that each key has at first.
 use Rattle.std.specs.Prelude.{◌≡◌, ℕ, zero, suc, true, ◌+◌, ◌/◌, ◌%◌, ◌==◌, ◌&&◌, ◌||◌, Bool, nat_le}
 
 -- how many layers there are

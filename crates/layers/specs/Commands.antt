@@ -1,4 +1,4 @@
--- Believed: commands, how they are read, and the words that they are stored as.
+-- Trusted: commands, how they are read, and the words that they are stored as.
 use Rattle.std.specs.Prelude.{ℕ, ◌+◌, ◌*◌, ◌/◌, ◌%◌, ◌^◌, ◌<◌, ◌==◌, ◌&&◌, ◌||◌, not, Bool, nat_lt, nat_le, if◌then◌else◌, IsTrue, Option, None, Result, Ok, Err}
 use Rattle.std.specs.Result.{result_ok}
 use Rattle.layers.specs.Codes.{layers, keys, is_code, is_between}

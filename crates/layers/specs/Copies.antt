@@ -1,4 +1,4 @@
--- Believed: the entries that differ from the default, by rising place, and the words that set them.
+-- Trusted: the entries that differ from the default, by rising place, and the words that set them.
 use Rattle.shapes.specs.Shapes.{SlotWords}
 use Rattle.std.specs.Prelude.{◌≡◌, ◌≢◌, ℕ, zero, suc, ◌*◌, ◌/◌, ◌%◌, ◌<◌, ◌≤◌, ◌==◌, if◌then◌else◌, IsTrue, [], ◌∷◌, ◌++◌}
 use Rattle.layers.specs.Codes.{layers, keys, is_code, default_at, DefaultCodes}

@@ -1,10 +1,10 @@
--- Believed: the entries of a keymap by the commands that changed it: the last writer decides.
+-- Trusted: the entries of a keymap by the commands that changed it: the last writer decides.
 use Rattle.shapes.specs.Shapes.{SlotWords}
 use Rattle.std.specs.Prelude.{◌≡◌, ◌≢◌, ℕ, ◌<◌, ◌==◌, ◌&&◌, if◌then◌else◌, Option, Some, None, unwrap_or, List, [], ◌∷◌, All}
 use Rattle.std.specs.List.{filter_map}
 use Rattle.std.specs.Option.{option_and_then, option_or}
 use Rattle.layers.specs.Codes.{layers, keys, default_code, DefaultCodes}
-use Rattle.layers.specs.Formats.{command_in}
+use Rattle.layers.specs.Formats.{command_by_format}
 use Rattle.layers.specs.declared.command.Command.{Command}
 use Rattle.layers.specs.declared.command.Command.TheVariants.{SetKey, ResetLayer, ResetAll}
 
@@ -26,7 +26,7 @@ module _ (defaults : DefaultCodes) where
 
 -- the commands among the words of a page of this format, in order; a word that is no command is passed over
 unfoldable pub commands_in : ℕ → SlotWords → List Command
-commands_in format words = filter_map (command_in format) words
+commands_in format words = filter_map (command_by_format format) words
 
 module _ (defaults : DefaultCodes) where
   -- the entry of a key on a layer by the words of a page of this format
@@ -35,7 +35,7 @@ module _ (defaults : DefaultCodes) where
 
   -- what a word gives an entry, if it is a command that writes it
   abbrev pub written_by_word : ℕ → ℕ → ℕ → ℕ → Option ℕ
-  written_by_word format word layer key = option_and_then (λ command. written defaults command layer key) (command_in format word)
+  written_by_word format word layer key = option_and_then (λ command. written defaults command layer key) (command_by_format format word)
 
   -- none of these words writes the entry
   abbrev pub NoneWrites : ℕ → SlotWords → ℕ → ℕ → Type 0

@@ -1,4 +1,4 @@
--- Believed: the two formats of pages: how their words stand for commands.
+-- Trusted: the two formats of pages: how their words stand for commands.
 use Rattle.std.specs.Prelude.{ℕ, ◌+◌, ◌-◌, ◌*◌, ◌/◌, ◌%◌, ◌^◌, ◌==◌, ◌&&◌, not, if◌then◌else◌, Option, Some, None, List, [], ◌∷◌, slice_index}
 use Rattle.std.specs.Option.{option_map, option_and_then}
 use Rattle.layers.specs.Codes.{is_between, is_code, is_consumer}
@@ -26,5 +26,5 @@ unfoldable pub command_of_format_1 : ℕ → Option Command
 command_of_format_1 word = option_and_then command_of (word_of_format_1 word)
 
 -- the command that a word stands for on a page of this format, 1 or 2
-abbrev pub command_in : ℕ → ℕ → Option Command
-command_in format word = if format == 1 then command_of_format_1 word else command_of word
+abbrev pub command_by_format : ℕ → ℕ → Option Command
+command_by_format format word = if format == 1 then command_of_format_1 word else command_of word

@@ -1,4 +1,4 @@
--- Believed: the keys that are held, and the codes that they have, looked up in what was pressed and released.
+-- Trusted: the keys that are held, and the codes that they have, looked up in what was pressed and released.
 use Rattle.shapes.specs.Shapes.{KeyCodes}
 use Rattle.std.specs.Prelude.{ℕ, zero, suc, ◌==◌, ◌&&◌, ◌||◌, not, Bool, false, if◌then◌else◌, Option, Some, None, is_none, List, [], ◌∷◌}
 use Rattle.std.specs.List.{find}

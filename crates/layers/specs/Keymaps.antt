@@ -1,4 +1,4 @@
--- Believed: a keymap as the list of its codes, layer by layer.
+-- Trusted: a keymap as the list of its codes, layer by layer.
 use Rattle.shapes.specs.Shapes.{SlotWords, KeyCodes}
 use Rattle.std.specs.Prelude.{◌≡◌, ℕ, ◌+◌, ◌*◌, ◌<◌, length, slice_index}
 use Rattle.layers.specs.Codes.{layers, keys, DefaultCodes}
@@ -19,5 +19,5 @@ pub record HasEntries (entries : ℕ → ℕ → ℕ) (keymap : KeyCodes) : Type
 
 module _ (defaults : DefaultCodes) where
   -- a keymap stands for the words of a page of this format
-  abbrev pub StandsFor : ℕ → SlotWords → KeyCodes → Type 0
-  StandsFor format words keymap = HasEntries (entry_in defaults format words) keymap
+  abbrev pub Refines : ℕ → SlotWords → KeyCodes → Type 0
+  Refines format words keymap = HasEntries (entry_in defaults format words) keymap

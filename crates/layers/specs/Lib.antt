@@ -8,4 +8,4 @@ pub mod Copies
 pub mod Held
 pub mod Usages
 pub mod Resolved
-pub mod ties
+pub mod representation

@@ -1,4 +1,4 @@
--- Believed where this crate is called: what the tests on held keys come to, as facts.
+-- Trusted where this crate is called: what the tests on held keys come to, as facts.
 use Rattle.std.specs.Prelude.{◌≡◌, ◌≢◌, ℕ, ◌<◌, Bool, IsTrue, Option, Some}
 use Rattle.layers.specs.Codes.{layers, keys, transparent}
 use Rattle.layers.specs.Held.{is_active}

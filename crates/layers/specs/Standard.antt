@@ -1,4 +1,4 @@
--- Believed: the standard default codes.
+-- Trusted: the standard default codes.
 use Rattle.std.specs.Prelude.{◌≡◌, ℕ, ◌+◌, ◌-◌, ◌==◌, Bool, true, false, refl, nat_lt, if◌then◌else◌}
 use Rattle.layers.specs.Codes.{keys, transparent, is_code, all_below, DefaultCodes}
 

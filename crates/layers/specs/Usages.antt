@@ -1,4 +1,4 @@
--- Believed: the usages of the keys that are held, as sets.
+-- Trusted: the usages of the keys that are held, as sets.
 use Rattle.std.specs.Prelude.{◌≡◌, ℕ, ◌/◌, ◌%◌, ◌<◌, ◌≤◌, ◌==◌, Bool, true, false, List, slice_index}
 use Rattle.std.specs.Int.{bit_at}
 use Rattle.layers.specs.Codes.{names_key_usage, names_consumer}

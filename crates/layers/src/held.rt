@@ -3,7 +3,7 @@
 ghost use Rattle.std.specs.Prelude.{◌≡◌, ◌<◌, ◌≤◌, ◌||◌, ℕ, Bool, true, false, Option, List, [], ◌∷◌, length, is_some, slice_index_or, if◌then◌else◌};
 ghost use Rattle.layers.specs.Codes.{keys, transparent, activates};
 ghost use Rattle.layers.specs.Held.{is_active, resolved, code, active, HeldCall, Press, Release};
-ghost use Rattle.layers.specs.ties.HeldStands.{kept, HeldStandsFor, AreNamed, AreActive, with_names, Puts};
+ghost use Rattle.layers.specs.representation.HeldRelation.{kept, HeldRefines, AreNamed, AreActive, with_names, Puts};
 ghost use Rattle.layers.specs.Keymaps.{code_at};
 ghost use Rattle.layers.specs.Usages.{has_key, has_consumer, key_usages, consumer_usages};
 
@@ -32,7 +32,7 @@ pub struct Held {
 
 impl Model for Held {
     ghost use Rattle.std.specs.Prelude.{◌≡◌, true, length};
-    ghost use Rattle.layers.specs.ties.HeldStands.{HeldValue, AreNamed, kept};
+    ghost use Rattle.layers.specs.representation.HeldRelation.{HeldValue, AreNamed, kept};
 
     ghost Value = { HeldValue };
 
@@ -45,7 +45,7 @@ impl Model for Held {
 impl Held {
     /// No key is held.
     pub fn new() -> Held
-        ensures stands { HeldStandsFor [] result }
+        ensures refines { HeldRefines [] result }
         ensures named { result.named ≡ true }
     {
         Held {
@@ -59,7 +59,7 @@ impl Held {
 
     /// Leaves what `new` gives: no key is held.
     pub fn clear(&mut self)
-        ensures stands { HeldStandsFor [] self.new }
+        ensures refines { HeldRefines [] self.new }
         ensures named { self.new.named ≡ true }
     {
         self.held = [0; KEY_WORDS];
@@ -72,7 +72,7 @@ impl Held {
     /// transparent, with the layers that were active before; `Code::NONE` where it is transparent
     /// on each. A key that is held stays as it is.
     pub fn press<D: Defaults>(&mut self, keymap: &KeymapOf<D>, key: KeyNo)
-        ensures { (past : List HeldCall) → HeldStandsFor past self.old → HeldStandsFor (Press keymap.now key ∷ past) self.new }
+        ensures { (past : List HeldCall) → HeldRefines past self.old → HeldRefines (Press keymap.now key ∷ past) self.new }
     {
         if !self.holds(key) {
             self.name_usages();
@@ -104,7 +104,7 @@ impl Held {
 
     /// Releases a key; one that is not held stays as it is.
     pub fn release(&mut self, key: KeyNo)
-        ensures { (past : List HeldCall) → HeldStandsFor past self.old → HeldStandsFor (Release key ∷ past) self.new }
+        ensures { (past : List HeldCall) → HeldRefines past self.old → HeldRefines (Release key ∷ past) self.new }
     {
         remove(&mut self.held, u16::from(key.number()));
         self.named = false;
@@ -123,7 +123,7 @@ impl Held {
     /// Returns whether a layer is active: layer 0 is, another while a key with its momentary code is
     /// held.
     pub fn active(&self, layer: LayerNo) -> bool
-        ensures { (past : List HeldCall) → HeldStandsFor past self.now → result ≡ active past layer }
+        ensures { (past : List HeldCall) → HeldRefines past self.now → result ≡ active past layer }
     {
         if self.named {
             is_active(&self.active, layer)
@@ -135,7 +135,7 @@ impl Held {
 
     /// Returns the code of a key, fixed at its press; None while it is not held.
     pub fn code(&self, key: KeyNo) -> Option<Code>
-        ensures { (past : List HeldCall) → HeldStandsFor past self.now → result ≡ code past key }
+        ensures { (past : List HeldCall) → HeldRefines past self.now → result ≡ code past key }
     {
         if self.holds(key) {
             Some(self.codes[key.number() as usize])
@@ -146,8 +146,8 @@ impl Held {
 
     /// Returns the usages that the codes of the held keys name.
     pub fn usages(&self) -> Usages
-        ensures keys { (past : List HeldCall) (usage : ℕ) → HeldStandsFor past self.now → has_key result usage ≡ key_usages past usage }
-        ensures consumer { (past : List HeldCall) (usage : ℕ) → HeldStandsFor past self.now → has_consumer result usage ≡ consumer_usages past usage }
+        ensures keys { (past : List HeldCall) (usage : ℕ) → HeldRefines past self.now → has_key result usage ≡ key_usages past usage }
+        ensures consumer { (past : List HeldCall) (usage : ℕ) → HeldRefines past self.now → has_consumer result usage ≡ consumer_usages past usage }
     {
         if self.named {
             self.usages
@@ -160,8 +160,8 @@ impl Held {
     /// Returns the same usages, lent, where they were named.
     pub fn lent(&self) -> &Usages
         requires { self.now.named ≡ true }
-        ensures keys { (past : List HeldCall) (usage : ℕ) → HeldStandsFor past self.now → has_key result.now usage ≡ key_usages past usage }
-        ensures consumer { (past : List HeldCall) (usage : ℕ) → HeldStandsFor past self.now → has_consumer result.now usage ≡ consumer_usages past usage }
+        ensures keys { (past : List HeldCall) (usage : ℕ) → HeldRefines past self.now → has_key result.now usage ≡ key_usages past usage }
+        ensures consumer { (past : List HeldCall) (usage : ℕ) → HeldRefines past self.now → has_consumer result.now usage ≡ consumer_usages past usage }
     {
         &self.usages
     }

@@ -5,10 +5,10 @@ ghost use Rattle.std.specs.Cmp.{partial_equiv_from_equiv};
 ghost use Rattle.std.specs.Cmp.Lexicographic.{pointwise, nat_list_eq_equiv};
 ghost use Rattle.layers.specs.Codes.{layers, keys, default_code, default_at};
 ghost use Rattle.layers.specs.Commands.{IsCommand};
-ghost use Rattle.layers.specs.Formats.{command_in};
+ghost use Rattle.layers.specs.Formats.{command_by_format};
 ghost use Rattle.layers.specs.Entries.{changed, ChangesSome, ChangesNothing};
 ghost use Rattle.layers.specs.Copies.{IsNextChanged, IsDefaultFrom};
-ghost use Rattle.layers.specs.Keymaps.{code_at, place_of, HasEntries, StandsFor};
+ghost use Rattle.layers.specs.Keymaps.{code_at, place_of, HasEntries, Refines};
 
 use crate::code::{ENTRIES, KEYS};
 use crate::defaults::PhantomData;
@@ -50,7 +50,7 @@ impl<D: Defaults> KeymapOf<D> {
     /// Returns the default keymap.
     pub fn standard() -> KeymapOf<D>
         ensures entries { HasEntries (default_code D.defaults) result }
-        ensures stands { (format : ℕ) → StandsFor D.defaults format [] result }
+        ensures refines { (format : ℕ) → Refines D.defaults format [] result }
     {
         let mut keymap = KeymapOf {
             codes: [Code::TRANSPARENT; ENTRIES],
@@ -63,7 +63,7 @@ impl<D: Defaults> KeymapOf<D> {
     /// Makes it the default keymap, where it lies.
     pub fn set_standard(&mut self)
         ensures entries { HasEntries (default_code D.defaults) self.new }
-        ensures stands { (format : ℕ) → StandsFor D.defaults format [] self.new }
+        ensures refines { (format : ℕ) → Refines D.defaults format [] self.new }
     {
         D::reset(&mut self.codes, 0, ENTRIES);
     }
@@ -80,7 +80,7 @@ impl<D: Defaults> KeymapOf<D> {
     #[inline(always)]
     pub fn apply(&mut self, command: Command)
         ensures entries { (entries : ℕ → ℕ → ℕ) → HasEntries entries self.old → HasEntries (changed D.defaults entries (command ∷ [])) self.new }
-        ensures stands { (format : ℕ) (words : List ℕ) (word : ℕ) → StandsFor D.defaults format words self.old → command_in format word ≡ Some command → StandsFor D.defaults format (words ++ word ∷ []) self.new }
+        ensures refines { (format : ℕ) (words : List ℕ) (word : ℕ) → Refines D.defaults format words self.old → command_by_format format word ≡ Some command → Refines D.defaults format (words ++ word ∷ []) self.new }
     {
         match command {
             Command::SetKey { layer, key, code } => self.codes[place(layer, key)] = code,

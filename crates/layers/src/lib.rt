@@ -5,7 +5,7 @@
 //! wrote it. `Held` keeps the code that each held key got at its press, and gives the `Usages` of
 //! HUT pages 07h and 0Ch that these codes name. Nothing here takes memory.
 //!
-//! A `Keymap` keeps the code of each entry, and a `Held` that of each held key. The promise is that
+//! A `Keymap` keeps the code of each entry, and a `Held` that of each held key. The guarantee is that
 //! an entry is what the last command that writes it says, and that a held key keeps the code of its
 //! press. `keymap_store` keeps a `Keymap`, `key_reports` a `Held`, and `keyboard` reads commands.
 #![tactic(auto)]
@@ -16,7 +16,7 @@ pub mod command;
 pub mod defaults;
 pub mod held;
 pub mod keymap;
-pub mod laws;
+pub mod theorems;
 pub mod usages;
 
 pub use code::{Code, ENTRIES, KeyNo, KeymapError, LayerNo};

@@ -11,15 +11,15 @@ use Rattle.lenient_parse.specs.declared.state.State.{State}
 use Rattle.lenient_parse.specs.Late.{has_id, late_after}
 use Rattle.lenient_parse.specs.Sets.{set_after}
 use Rattle.lenient_parse.specs.Padding.{padding}
-use Rattle.lenient_parse.specs.Lenient.{instead, passed, bytes_of, told, text_from, origins_from, passed_from}
-use Rattle.lenient_parse.specs.ties.Stands.{Stands, AreShort}
-use Rattle.lenient_parse.specs.ties.Goes.{Goes}
+use Rattle.lenient_parse.specs.Lenient.{instead, passed, bytes_of, reported, text_from, origins_from, passed_from}
+use Rattle.lenient_parse.specs.representation.Relation.{Relation, AreShort}
+use Rattle.lenient_parse.specs.representation.Goes.{Goes}
 
-pub goes_first : (items : List ItemValue) (output : Output) (state : State) → Stands [] items state → state.late ≡ has_id items → state.set ≡ None
+pub goes_first : (items : List ItemValue) (output : Output) (state : State) → Relation [] items state → state.late ≡ has_id items → state.set ≡ None
     → output.text.items ≡ [] → output.origins.items ≡ [] → output.passed.items ≡ [] → AreShort items → Goes items items output state
 goes_first items output state s late set text origins passed short = record {
   before = [];
-  stands = s;
+  refines = s;
   short = short;
   text = rw (late, set, text) refl;
   origins = rw (late, set, origins) refl;
@@ -28,24 +28,24 @@ goes_first items output state s late set text origins passed short = record {
 
 -- what an item adds
 pub record Adds (item : ItemValue) (more : List ItemValue) (old new : Output) (state after : State) : Type 0 where
-  pub text : (before : List ItemValue) → Stands before (item ∷ more) state → new.text.items ≡ old.text.items ++ bytes_of (instead state.late state.set before item more) before item
-  pub origins : (before : List ItemValue) → Stands before (item ∷ more) state
+  pub text : (before : List ItemValue) → Relation before (item ∷ more) state → new.text.items ≡ old.text.items ++ bytes_of (instead state.late state.set before item more) before item
+  pub origins : (before : List ItemValue) → Relation before (item ∷ more) state
       → new.origins.items ≡ old.origins.items ++ replicate (length (bytes_of (instead state.late state.set before item more) before item)) item.offset
-  pub passed : (before : List ItemValue) → Stands before (item ∷ more) state → new.passed.items ≡ old.passed.items ++ told (passed state.late state.set before item more) item
+  pub passed : (before : List ItemValue) → Relation before (item ∷ more) state → new.passed.items ≡ old.passed.items ++ reported (passed state.late state.set before item more) item
   pub late : after.late ≡ late_after state.late item
   pub set : after.set ≡ set_after state.set item more
-  pub stands : (before : List ItemValue) → Stands before (item ∷ more) state → Stands (item ∷ before) more after
+  pub refines : (before : List ItemValue) → Relation before (item ∷ more) state → Relation (item ∷ before) more after
 
 pub goes_more : (items : List ItemValue) (item : ItemValue) (more : List ItemValue) (old new : Output) (state after : State) → Adds item more old new state after
     → Goes items (item ∷ more) old state → Goes items more new after
 unfolding text_from origins_from passed_from
 goes_more items item more old new state after a g = record {
   before = item ∷ g.before;
-  stands = a.stands g.before g.stands;
+  refines = a.refines g.before g.refines;
   short = g.short.1;
-  text = rw (a.text g.before g.stands, a.late, a.set) (append_assoc old.text.items (bytes_of (instead state.late state.set g.before item more) g.before item) (text_from (late_after state.late item) (set_after state.set item more) (item ∷ g.before) more) ∙ g.text);
-  origins = rw (a.origins g.before g.stands, a.late, a.set) (append_assoc old.origins.items (replicate {A = ℕ} (length (bytes_of (instead state.late state.set g.before item more) g.before item)) item.offset) (origins_from (late_after state.late item) (set_after state.set item more) (item ∷ g.before) more) ∙ g.origins);
-  passed = rw (a.passed g.before g.stands, a.late, a.set) (append_assoc old.passed.items (told (passed state.late state.set g.before item more) item) (passed_from (late_after state.late item) (set_after state.set item more) (item ∷ g.before) more) ∙ g.passed);
+  text = rw (a.text g.before g.refines, a.late, a.set) (append_assoc old.text.items (bytes_of (instead state.late state.set g.before item more) g.before item) (text_from (late_after state.late item) (set_after state.set item more) (item ∷ g.before) more) ∙ g.text);
+  origins = rw (a.origins g.before g.refines, a.late, a.set) (append_assoc old.origins.items (replicate {A = ℕ} (length (bytes_of (instead state.late state.set g.before item more) g.before item)) item.offset) (origins_from (late_after state.late item) (set_after state.set item more) (item ∷ g.before) more) ∙ g.origins);
+  passed = rw (a.passed g.before g.refines, a.late, a.set) (append_assoc old.passed.items (reported (passed state.late state.set g.before item more) item) (passed_from (late_after state.late item) (set_after state.set item more) (item ∷ g.before) more) ∙ g.passed);
 }
 
 -- all items are taken
@@ -62,7 +62,7 @@ unfolding passed_from
 goes_passed items output state g = sym (append-nil output.passed.items) ∙ g.passed
 
 -- the bytes that stand in place of a data item past the limits
-pub padded_bytes : (before : List ItemValue) (item : ItemValue) (more : List ItemValue) (state : State) → Stands before (item ∷ more) state
+pub padded_bytes : (before : List ItemValue) (item : ItemValue) (more : List ItemValue) (state : State) → Relation before (item ∷ more) state
     → Padding ≡ instead state.late state.set before item more
     → padding item.prefix state.sizes.now.size state.sizes.now.count ≡ bytes_of (instead state.late state.set before item more) before item
 padded_bytes before item more state s e =

@@ -8,30 +8,30 @@ use Rattle.descriptor_parse.specs.declared.tag.GlobalTag.TheVariants.{UsagePage,
 use Rattle.descriptor_parse.specs.Items.{ItemValue}
 use Rattle.descriptor_parse.specs.Tags.{tag, is_push, is_pop}
 use Rattle.descriptor_parse.specs.Globals.{unsigned, in_force}
-use Rattle.descriptor_parse.specs.ties.StackStands.{StackStands}
-use Rattle.descriptor_parse.proofs.StackLemmas.{stand_more}
+use Rattle.descriptor_parse.specs.representation.StackRefines.{StackRefines}
+use Rattle.descriptor_parse.proofs.StackLemmas.{refine_more}
 use Rattle.lenient_parse.specs.declared.sizes.Sizes.{Sizes}
-use Rattle.lenient_parse.specs.ties.Stands.{sizes_of}
+use Rattle.lenient_parse.specs.representation.Relation.{sizes_of}
 
 -- a Push changes none
 pub sizes_push : (item : ItemValue) (items : List ItemValue) → tag item ≡ Global Push → sizes_of (item ∷ items) ≡ sizes_of items
 sizes_push item items e = rw e refl
 
 -- an item that sets the Report Size, and one that sets the Report Count
-pub stand_size : (before : List ItemValue) (item : ItemValue) (old new : Stack Sizes) → tag item ≡ Global ReportSize
+pub refine_size : (before : List ItemValue) (item : ItemValue) (old new : Stack Sizes) → tag item ≡ Global ReportSize
     → new.now ≡ record old.now { size = unsigned item.bytes } → new.saved.items ≡ old.saved.items
-    → StackStands sizes_of before old → StackStands sizes_of (item ∷ before) new
-stand_size before item old new e set rest s =
+    → StackRefines sizes_of before old → StackRefines sizes_of (item ∷ before) new
+refine_size before item old new e set rest s =
     let same : record (sizes_of (in_force before)) { size = unsigned item.bytes } ≡ sizes_of (item ∷ in_force before) = rw e refl in
-    stand_more sizes_of before item old new (ap is_push e) (ap is_pop e)
+    refine_more sizes_of before item old new (ap is_push e) (ap is_pop e)
     (set ∙ ap {A = Sizes} (λ z. record z { size = unsigned item.bytes }) s.now ∙ same) rest s
 
-pub stand_count : (before : List ItemValue) (item : ItemValue) (old new : Stack Sizes) → tag item ≡ Global ReportCount
+pub refine_count : (before : List ItemValue) (item : ItemValue) (old new : Stack Sizes) → tag item ≡ Global ReportCount
     → new.now ≡ record old.now { count = unsigned item.bytes } → new.saved.items ≡ old.saved.items
-    → StackStands sizes_of before old → StackStands sizes_of (item ∷ before) new
-stand_count before item old new e set rest s =
+    → StackRefines sizes_of before old → StackRefines sizes_of (item ∷ before) new
+refine_count before item old new e set rest s =
     let same : record (sizes_of (in_force before)) { count = unsigned item.bytes } ≡ sizes_of (item ∷ in_force before) = rw e refl in
-    stand_more sizes_of before item old new (ap is_push e) (ap is_pop e)
+    refine_more sizes_of before item old new (ap is_push e) (ap is_pop e)
     (set ∙ ap {A = Sizes} (λ z. record z { count = unsigned item.bytes }) s.now ∙ same) rest s
 
 abbrev pub is_kept : Tag → Type 0
@@ -63,10 +63,10 @@ kept (Local l) item items e k = rw e refl
 kept Skipped item items e k = rw e refl
 
 -- any other item leaves them
-pub stand_kept : (before : List ItemValue) (item : ItemValue) (t : Tag) (sizes : Stack Sizes) → tag item ≡ t → is_kept t
-    → StackStands sizes_of before sizes → StackStands sizes_of (item ∷ before) sizes
-stand_kept before item t sizes e k s =
-    stand_more sizes_of before item sizes sizes (ap is_push e ∙ no_push t k) (ap is_pop e ∙ no_pop t k)
+pub refine_kept : (before : List ItemValue) (item : ItemValue) (t : Tag) (sizes : Stack Sizes) → tag item ≡ t → is_kept t
+    → StackRefines sizes_of before sizes → StackRefines sizes_of (item ∷ before) sizes
+refine_kept before item t sizes e k s =
+    refine_more sizes_of before item sizes sizes (ap is_push e ∙ no_push t k) (ap is_pop e ∙ no_pop t k)
     (s.now ∙ sym (kept t item (in_force before) e k)) refl s
 
 pub other : (t : GlobalTag) → (t ≡ Push → ⊥) → (t ≡ Pop → ⊥) → (t ≡ ReportSize → ⊥) → (t ≡ ReportCount → ⊥) → is_kept (Global t)

@@ -7,7 +7,7 @@ use Rattle.descriptor_parse.specs.declared.fault.ParseError.{ParseError}
 use Rattle.descriptor_parse.specs.Items.{ItemValue, data_size, item_size, front_item, first_items, items_at}
 use Rattle.lenient_parse.specs.Late.{has_id}
 use Rattle.lenient_parse.specs.Lenient.{text_from, origins_from, passed_from, whole, end_of, items_of, passed_over, cut_off, rewritten, origins, LenientValue, lenient_of}
-use Rattle.lenient_parse.specs.ties.Stands.{AreShort}
+use Rattle.lenient_parse.specs.representation.Relation.{AreShort}
 
 -- ---- the items of a text are short
 

@@ -1,4 +1,4 @@
--- Believed: the fault that a text is refused for in the lenient mode.
+-- Trusted: the fault that a text is refused for in the lenient mode.
 use Rattle.std.specs.Prelude.{◌≡◌, ℕ, slice_index_or}
 use Rattle.descriptor_parse.specs.declared.fault.ParseError.{ParseError}
 use Rattle.descriptor_parse.specs.Faults.{IsFirstFault}

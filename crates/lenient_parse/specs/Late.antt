@@ -1,4 +1,4 @@
--- Believed: what stands before a late Report ID. Lists of items in this crate hold them in the order of the text.
+-- Trusted: what stands before a late Report ID. Lists of items in this crate hold them in the order of the text.
 use Rattle.std.specs.Prelude.{ℕ, ◌/◌, ◌%◌, ◌==◌, if◌then◌else◌, Bool, false, not, ◌&&◌, ◌||◌, List, [], ◌∷◌}
 use Rattle.std.specs.List.{list_any}
 use Rattle.descriptor_parse.specs.Items.{ItemValue}

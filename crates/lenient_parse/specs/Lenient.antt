@@ -1,4 +1,4 @@
--- Believed: the text that is parsed in place of another one, and what was passed over.
+-- Trusted: the text that is parsed in place of another one, and what was passed over.
 use Rattle.shapes.specs.Shapes.{Bytes}
 use Rattle.std.specs.Prelude.{ℕ, ◌==◌, if◌then◌else◌, nat_lt, Bool, ◌&&◌, List, [], ◌∷◌, ◌++◌, length, drop, replicate, Option, None, Some, Result, Ok, Err}
 use Rattle.descriptor_parse.specs.declared.fault.ParseError.{ParseError}
@@ -37,9 +37,9 @@ bytes_of Item before item = written item
 bytes_of Nothing before item = []
 bytes_of Padding before item = padding item.prefix (report_size before) (report_count before)
 
-abbrev pub told : Option ParseFault → ItemValue → List ParseError
-told None item = []
-told (Some fault) item = record { fault = fault; offset = item.offset } ∷ []
+abbrev pub reported : Option ParseFault → ItemValue → List ParseError
+reported None item = []
+reported (Some fault) item = record { fault = fault; offset = item.offset } ∷ []
 
 -- ---- the items of a text, after those before
 
@@ -58,7 +58,7 @@ origins_from late set before (item ∷ more) =
 unfoldable pub passed_from : Bool → Option Seen → List ItemValue → List ItemValue → List ParseError
 passed_from late set before [] = []
 passed_from late set before (item ∷ more) =
-    told (passed late set before item more) item ++ passed_from (late_after late item) (set_after set item more) (item ∷ before) more
+    reported (passed late set before item more) item ++ passed_from (late_after late item) (set_after set item more) (item ∷ before) more
 
 -- ---- a whole text
 

@@ -3,4 +3,4 @@ pub mod Sets
 pub mod Padding
 pub mod Lenient
 pub mod Answers
-pub mod ties
+pub mod representation

@@ -1,4 +1,4 @@
--- Believed: padding in place of a data item past the limits.
+-- Trusted: padding in place of a data item past the limits.
 use Rattle.shapes.specs.Shapes.{Bytes}
 use Rattle.std.specs.Prelude.{ℕ, ◌+◌, ◌-◌, ◌*◌, ◌/◌, ◌%◌, ◌^◌, if◌then◌else◌, nat_lt, nat_le, Bool, ◌&&◌, ◌||◌, List, [], ◌∷◌}
 use Rattle.descriptor_parse.specs.Items.{ItemValue}

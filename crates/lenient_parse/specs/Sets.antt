@@ -1,4 +1,4 @@
--- Believed: the sets that Delimiters bracket (HID 1.11, 6.2.2.8).
+-- Trusted: the sets that Delimiters bracket (HID 1.11, 6.2.2.8).
 use Rattle.shapes.specs.Shapes.{Bytes}
 use Rattle.std.specs.Prelude.{ℕ, ◌+◌, ◌-◌, ◌%◌, ◌==◌, if◌then◌else◌, nat_lt, nat_le, Bool, true, false, not, ◌&&◌, ◌||◌, List, [], ◌∷◌, Option, None, Some}
 use Rattle.descriptor_parse.specs.Items.{ItemValue}

@@ -5,8 +5,8 @@ ghost use Rattle.descriptor_parse.specs.Items.{ItemValue};
 ghost use Rattle.descriptor_parse.specs.ItemViews.{item_view};
 ghost use Rattle.lenient_parse.specs.Late.{has_id};
 ghost use Rattle.lenient_parse.specs.Lenient.{text_from, origins_from, passed_from, passed_over, lenient_of};
-ghost use Rattle.lenient_parse.specs.ties.Stands.{AreShort};
-ghost use Rattle.lenient_parse.specs.ties.Goes.{Goes};
+ghost use Rattle.lenient_parse.specs.representation.Relation.{AreShort};
+ghost use Rattle.lenient_parse.specs.representation.Goes.{Goes};
 
 use crate::output::Output;
 use crate::parts::{part_from, whole_items};

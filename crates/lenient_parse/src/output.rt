@@ -4,8 +4,8 @@ ghost use Rattle.std.specs.Prelude.{◌≡◌, ◌++◌, List, [], ◌∷◌, On
 ghost use Rattle.descriptor_parse.specs.Items.{ItemValue};
 ghost use Rattle.descriptor_parse.specs.ItemViews.{item_view};
 ghost use Rattle.lenient_parse.specs.Padding.{padding, byte_at};
-ghost use Rattle.lenient_parse.specs.Lenient.{instead, passed, written, bytes_of, told};
-ghost use Rattle.lenient_parse.specs.ties.Stands.{Stands};
+ghost use Rattle.lenient_parse.specs.Lenient.{instead, passed, written, bytes_of, reported};
+ghost use Rattle.lenient_parse.specs.representation.Relation.{Relation};
 
 use crate::sizes::Sizes;
 use crate::state::{Instead, State};
@@ -47,15 +47,15 @@ impl Output {
         item: &Item<'_>,
         more: &[Item<'_>],
     ) -> Result<(), AllocError>
-        ensures text { OnOk result ((before : List ItemValue) → Stands before (item_view item.now ∷ map item_view more.now) state.now
+        ensures text { OnOk result ((before : List ItemValue) → Relation before (item_view item.now ∷ map item_view more.now) state.now
             → self.new.text.items ≡ self.old.text.items
             ++ bytes_of (instead state.now.late state.now.set before (item_view item.now) (map item_view more.now)) before (item_view item.now)) }
-        ensures origins { OnOk result ((before : List ItemValue) → Stands before (item_view item.now ∷ map item_view more.now) state.now
+        ensures origins { OnOk result ((before : List ItemValue) → Relation before (item_view item.now ∷ map item_view more.now) state.now
             → self.new.origins.items ≡ self.old.origins.items
             ++ replicate (length (bytes_of (instead state.now.late state.now.set before (item_view item.now) (map item_view more.now)) before (item_view item.now))) item.now.offset) }
-        ensures passed { OnOk result ((before : List ItemValue) → Stands before (item_view item.now ∷ map item_view more.now) state.now
+        ensures passed { OnOk result ((before : List ItemValue) → Relation before (item_view item.now ∷ map item_view more.now) state.now
             → self.new.passed.items ≡ self.old.passed.items
-            ++ told (passed state.now.late state.now.set before (item_view item.now) (map item_view more.now)) (item_view item.now)) }
+            ++ reported (passed state.now.late state.now.set before (item_view item.now) (map item_view more.now)) (item_view item.now)) }
     {
         self.tell(state, item, more)?;
         match state.instead(item, more) {
@@ -73,9 +73,9 @@ impl Output {
     fn tell(&mut self, state: &State, item: &Item<'_>, more: &[Item<'_>]) -> Result<(), AllocError>
         ensures text { OnOk result (self.new.text ≡ self.old.text) }
         ensures origins { OnOk result (self.new.origins ≡ self.old.origins) }
-        ensures passed { OnOk result ((before : List ItemValue) → Stands before (item_view item.now ∷ map item_view more.now) state.now
+        ensures passed { OnOk result ((before : List ItemValue) → Relation before (item_view item.now ∷ map item_view more.now) state.now
             → self.new.passed.items ≡ self.old.passed.items
-            ++ told (passed state.now.late state.now.set before (item_view item.now) (map item_view more.now)) (item_view item.now)) }
+            ++ reported (passed state.now.late state.now.set before (item_view item.now) (map item_view more.now)) (item_view item.now)) }
     {
         if let Some(fault) = state.passed(item, more) {
             self.passed.push(ParseError {

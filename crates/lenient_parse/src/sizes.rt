@@ -6,8 +6,8 @@ ghost use Rattle.descriptor_parse.specs.ItemViews.{item_view};
 ghost use Rattle.descriptor_parse.specs.Globals.{unsigned};
 ghost use Rattle.descriptor_parse.specs.Tags.{tag_of};
 ghost use Rattle.descriptor_parse.specs.declared.tag.Tag.{Tag};
-ghost use Rattle.descriptor_parse.specs.ties.StackStands.{StackStands};
-ghost use Rattle.lenient_parse.specs.ties.Stands.{sizes_of, IsShort};
+ghost use Rattle.descriptor_parse.specs.representation.StackRefines.{StackRefines};
+ghost use Rattle.lenient_parse.specs.representation.Relation.{sizes_of, IsShort};
 
 use descriptor_parse::number::unsigned;
 use descriptor_parse::stack::Stack;
@@ -30,7 +30,7 @@ impl Sizes {
 /// Takes an item.
 pub(crate) fn take(sizes: &mut Stack<Sizes>, item: &Item<'_>) -> Result<(), AllocError>
     requires { IsShort (item_view item.now) }
-    ensures { OnOk result ((before : List ItemValue) → StackStands sizes_of before sizes.old → StackStands sizes_of (item_view item.now ∷ before) sizes.new) }
+    ensures { OnOk result ((before : List ItemValue) → StackRefines sizes_of before sizes.old → StackRefines sizes_of (item_view item.now ∷ before) sizes.new) }
 {
     match item.tag() {
         Tag::Global(tag) => take_global(sizes, tag, item.bytes),
@@ -41,7 +41,7 @@ pub(crate) fn take(sizes: &mut Stack<Sizes>, item: &Item<'_>) -> Result<(), Allo
 fn take_global(sizes: &mut Stack<Sizes>, tag: GlobalTag, bytes: &[u8]) -> Result<(), AllocError>
     requires { length bytes.now ≤ 4 }
     ensures { OnOk result ((before : List ItemValue) (item : ItemValue) → tag_of item.prefix ≡ Tag.Global tag → item.bytes ≡ bytes.now
-        → StackStands sizes_of before sizes.old → StackStands sizes_of (item ∷ before) sizes.new) }
+        → StackRefines sizes_of before sizes.old → StackRefines sizes_of (item ∷ before) sizes.new) }
 {
     match tag {
         GlobalTag::Push => sizes.save()?,

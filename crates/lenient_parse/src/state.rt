@@ -4,12 +4,12 @@ ghost use Rattle.std.specs.Prelude.{◌≡◌, ◌<◌, ◌≤◌, ◌*◌, ◌^
 ghost use Rattle.descriptor_parse.specs.Items.{ItemValue};
 ghost use Rattle.descriptor_parse.specs.ItemViews.{item_view};
 ghost use Rattle.descriptor_parse.specs.Fields.{is_constant};
-ghost use Rattle.descriptor_parse.specs.ties.StackStands.{StackStands};
+ghost use Rattle.descriptor_parse.specs.representation.StackRefines.{StackRefines};
 ghost use Rattle.lenient_parse.specs.Late.{has_id, late_after, is_late, next_is_data};
 ghost use Rattle.lenient_parse.specs.Sets.{opens, set_after, is_left, begins_set};
 ghost use Rattle.lenient_parse.specs.Padding.{is_large, is_padded};
 ghost use Rattle.lenient_parse.specs.Lenient.{instead, passed};
-ghost use Rattle.lenient_parse.specs.ties.Stands.{sizes_of, Stands, IsShort};
+ghost use Rattle.lenient_parse.specs.representation.Relation.{sizes_of, Relation, IsShort};
 
 use crate::ahead::{
     closes, has_id, is_constant, is_data, is_delimiter, is_local, is_main, is_report_id, is_zero,
@@ -54,7 +54,7 @@ pub(crate) struct State {
 impl State {
     /// That before the first item.
     pub(crate) fn new(alloc: Global, items: &[Item<'_>]) -> State
-        ensures stands { Stands [] (map item_view items.now) result }
+        ensures refines { Relation [] (map item_view items.now) result }
         ensures late { result.late ≡ has_id (map item_view items.now) }
         ensures set { result.set ≡ None }
     {
@@ -68,7 +68,7 @@ impl State {
 
     /// What stands in place of an item.
     pub(crate) fn instead(&self, item: &Item<'_>, more: &[Item<'_>]) -> Instead
-        ensures { (before : List ItemValue) → Stands before (item_view item.now ∷ map item_view more.now) self.now
+        ensures { (before : List ItemValue) → Relation before (item_view item.now ∷ map item_view more.now) self.now
             → result ≡ instead self.now.late self.now.set before (item_view item.now) (map item_view more.now) }
     {
         if self.is_late(item) || self.is_left(item, more) {
@@ -83,7 +83,7 @@ impl State {
 
     /// The fault that is passed over at an item.
     pub(crate) fn passed(&self, item: &Item<'_>, more: &[Item<'_>]) -> Option<ParseFault>
-        ensures { (before : List ItemValue) → Stands before (item_view item.now ∷ map item_view more.now) self.now
+        ensures { (before : List ItemValue) → Relation before (item_view item.now ∷ map item_view more.now) self.now
             → result ≡ passed self.now.late self.now.set before (item_view item.now) (map item_view more.now) }
     {
         if self.late && is_data(item) {
@@ -107,8 +107,8 @@ impl State {
         requires { IsShort (item_view item.now) }
         ensures late { OnOk result (self.new.late ≡ late_after self.old.late (item_view item.now)) }
         ensures set { OnOk result (self.new.set ≡ set_after self.old.set (item_view item.now) (map item_view more.now)) }
-        ensures stands { OnOk result ((before : List ItemValue) → Stands before (item_view item.now ∷ map item_view more.now) self.old
-            → Stands (item_view item.now ∷ before) (map item_view more.now) self.new) }
+        ensures refines { OnOk result ((before : List ItemValue) → Relation before (item_view item.now ∷ map item_view more.now) self.old
+            → Relation (item_view item.now ∷ before) (map item_view more.now) self.new) }
     {
         take(&mut self.sizes, item)?;
         self.set = self.set_after(item, more);
@@ -164,7 +164,7 @@ impl State {
     }
 
     fn is_large(&self, item: &Item<'_>) -> bool
-        ensures { (before : List ItemValue) → StackStands sizes_of before self.now.sizes → result ≡ is_large before (item_view item.now) }
+        ensures { (before : List ItemValue) → StackRefines sizes_of before self.now.sizes → result ≡ is_large before (item_view item.now) }
     {
         let limit = if is_constant(item.bytes) {
             MAX_CONSTANT_SIZE
@@ -175,7 +175,7 @@ impl State {
     }
 
     fn is_padded(&self, item: &Item<'_>) -> bool
-        ensures { (before : List ItemValue) → StackStands sizes_of before self.now.sizes → result ≡ is_padded before (item_view item.now) }
+        ensures { (before : List ItemValue) → StackRefines sizes_of before self.now.sizes → result ≡ is_padded before (item_view item.now) }
     {
         let Sizes { size, count } = self.sizes.now;
         is_data(item)

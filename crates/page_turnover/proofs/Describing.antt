@@ -9,7 +9,7 @@ use Rattle.page_turnover.specs.Active.{active}
 use Rattle.page_turnover.specs.Words.{HasRoom, words, words_up_to}
 use Rattle.page_turnover.specs.Value.{LogValue}
 use Rattle.page_turnover.specs.Log.{HasTailRoom}
-use Rattle.page_turnover.specs.ties.Log.{Describes, IsHeld}
+use Rattle.page_turnover.specs.representation.Log.{Describes, IsHeld}
 use Rattle.page_turnover.specs.Usable.{IsUsable, IsFirstUnsound}
 use Rattle.std.specs.Prelude.{IsSomeAnd, Option, MatchOption}
 use Rattle.page_turnover.proofs.Headers.{is_active}

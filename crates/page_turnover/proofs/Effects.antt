@@ -16,9 +16,9 @@ use Rattle.page_turnover.specs.Words.{words_up_to}
 use Rattle.page_turnover.specs.Usable.{IsUsable}
 use Rattle.page_turnover.specs.Value.{LogValue}
 use Rattle.page_turnover.specs.Turn.{target_page, next_seq, copied, copies, offered}
-use Rattle.page_turnover.specs.ties.Turn.{HoldsCopies, Turning, Copying}
+use Rattle.page_turnover.specs.representation.Turn.{HoldsCopies, Turning, Copying}
 use Rattle.page_turnover.specs.Steps.{ErasesTarget, Copies, StepsFor, EndsAs, Moves, Commits, CommitsTurn, IsReady}
-use Rattle.page_turnover.specs.ties.Log.{Describes}
+use Rattle.page_turnover.specs.representation.Log.{Describes}
 use Rattle.page_turnover.proofs.WordLists.{words_none}
 use Rattle.page_turnover.proofs.Operating.{Appended, Headed, usable_same}
 use Rattle.page_turnover.proofs.Turns.{target_inside, ready_holds, words_of_copies, count_of_copies}
@@ -68,7 +68,7 @@ moved_for old before (Seal target) step new after d e i m s = elim s [
 pub moved : (old : List ℕ) (before : LogValue) (step : Step) (new : List ℕ) (after : LogValue) → Describes old before → step ≡ Moved → EndsAs old before step new after → Moves old before.task new after.task
 moved old before step new after d m e = moved_for old before before.task step new after d refl e.describes.whole m (e.done (λ x. cc))
 
--- a turn that is committed
+-- a compaction that is committed
 pub turn_committed : (old : List ℕ) (before : LogValue) (target : Target) (new : List ℕ) → Describes old before → before.task ≡ Seal target → IsReady old target → IsImage new → Programs old (target_page old) 0 (encoded (header_word 2 (next_seq old))) new → CommitsTurn old (Seal target) new
 turn_committed old before target new d e ready i g =
     let c : Turning old target = under_way old before (Seal target) d e in

@@ -21,9 +21,9 @@ use Rattle.page_turnover.specs.Words.{words_up_to, IsBlank}
 use Rattle.page_turnover.specs.Usable.{IsUsable, IsFirstUnsound}
 use Rattle.page_turnover.specs.Value.{LogValue}
 use Rattle.page_turnover.specs.Turn.{target_page, next_seq, copied, copies, IsPending}
-use Rattle.page_turnover.specs.ties.Turn.{HoldsCopies, Turning, Copying, UnderWay, TargetIs, IsGood}
+use Rattle.page_turnover.specs.representation.Turn.{HoldsCopies, Turning, Copying, UnderWay, TargetIs, IsGood}
 use Rattle.page_turnover.specs.Steps.{Appends, ErasesTarget, Copies, Seals, Steps, StepsFor, IsReady, EndsAs}
-use Rattle.page_turnover.specs.ties.Log.{Describes, IsHeld}
+use Rattle.page_turnover.specs.representation.Log.{Describes, IsHeld}
 use Rattle.page_turnover.proofs.WordLists.{words_same, up_to_more}
 use Rattle.page_turnover.proofs.Describing.{held_active, tail_of_room}
 use Rattle.page_turnover.proofs.Operating.{Appended, appended, Headed, headed, usable_same, programmed_good}
@@ -162,7 +162,7 @@ copy_ends old before target word new d e ready i g =
       kept = λ x. cc;
     }
 
--- a seal
+-- a commit header
 pub seal_fact : (old : List ℕ) (before : LogValue) (target : Target) (new : List ℕ) → Describes old before → before.task ≡ Seal target → IsReady old target → IsImage new → Programs old (target_page old) 0 (encoded (header_word 2 (next_seq old))) new → Headed old (target_page old) (next_seq old) new
 seal_fact old before target new d e ready i g =
     let c : Turning old target = under_way old before (Seal target) d e in
@@ -214,7 +214,7 @@ usable_of image (Wait target) p u = absurd p
 usable_of image (Copy target word) p u = u.turning.can.usable
 usable_of image (Seal target) p u = u.can.usable
 
--- the copies of a waiting turn are as many as it counted
+-- the copies of a waiting compaction are as many as it counted
 pub waiting_count : (image : List ℕ) (target : Target) → TargetIs image target → length (copies image (Wait target)) ≡ copied target
 waiting_count image Unread t = rw (words_none image (target_page image)) refl
 waiting_count image (Holds n) t = count_of_copies image (target_page image) n t

@@ -13,10 +13,10 @@ use Rattle.page_turnover.specs.declared.operation.Operation.{Operation}
 use Rattle.page_turnover.specs.Value.{LogValue, Rest}
 use Rattle.page_turnover.specs.Active.{active}
 use Rattle.page_turnover.specs.Words.{IsTail}
-use Rattle.page_turnover.specs.ties.Log.{Describes, IsHeld}
+use Rattle.page_turnover.specs.representation.Log.{Describes, IsHeld}
 use Rattle.page_turnover.specs.Next.{next_operation, MayMake, ReadsBack}
 use Rattle.page_turnover.specs.Steps.{EndsAs}
-use Rattle.page_turnover.specs.ties.Made.{IsPassedOver}
+use Rattle.page_turnover.specs.representation.Made.{IsPassedOver}
 use Rattle.page_turnover.proofs.Kept.{still_usable}
 use Rattle.page_turnover.proofs.Endings.{usable_of}
 use Rattle.page_turnover.proofs.Planning.{next_is}

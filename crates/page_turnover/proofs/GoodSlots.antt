@@ -9,8 +9,8 @@ use Rattle.records.proofs.SlotLemmas.{good_halves}
 use Rattle.records.specs.Blocks.{is_good}
 use Rattle.flash_model.specs.Image.{slot_at}
 use Rattle.page_turnover.specs.Words.{word_of}
-use Rattle.page_turnover.specs.ties.Turn.{IsGood}
-use Rattle.page_turnover.specs.ties.Blocks.{AreGoodFrom, AreGoodWithin}
+use Rattle.page_turnover.specs.representation.Turn.{IsGood}
+use Rattle.page_turnover.specs.representation.Blocks.{AreGoodFrom, AreGoodWithin}
 
 good_one : (s : Slot) → ◌≡◌ {A = ℕ} (if is_good s then 1 else 0) 1 → IsGood s
 good_one Free e = absurd (omega arith)

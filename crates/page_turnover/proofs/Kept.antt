@@ -14,8 +14,8 @@ use Rattle.page_turnover.specs.Words.{words}
 use Rattle.page_turnover.specs.Usable.{IsUsable, IsFirstUnsound}
 use Rattle.page_turnover.specs.Value.{LogValue}
 use Rattle.page_turnover.specs.Turn.{target_page, next_seq, CanTurn}
-use Rattle.page_turnover.specs.ties.Turn.{UnderWay}
-use Rattle.page_turnover.specs.ties.Log.{Describes, IsHeld}
+use Rattle.page_turnover.specs.representation.Turn.{UnderWay}
+use Rattle.page_turnover.specs.representation.Log.{Describes, IsHeld}
 use Rattle.page_turnover.proofs.Headers.{is_active, active_of, is_none, active_none, format-same}
 use Rattle.page_turnover.proofs.WordLists.{words_same}
 use Rattle.page_turnover.proofs.Describing.{words_active, words_none_active}

@@ -14,11 +14,11 @@ use Rattle.page_turnover.specs.Active.{active}
 use Rattle.page_turnover.specs.Words.{words_up_to, word_of}
 use Rattle.page_turnover.specs.Usable.{IsUsable}
 use Rattle.page_turnover.specs.Turn.{target_page, next_seq, copied, IsPending}
-use Rattle.page_turnover.specs.ties.Turn.{Appending, Copying, Turning, HoldsCopies}
-use Rattle.page_turnover.specs.ties.Log.{Describes, IsHeld}
+use Rattle.page_turnover.specs.representation.Turn.{Appending, Copying, Turning, HoldsCopies}
+use Rattle.page_turnover.specs.representation.Log.{Describes, IsHeld}
 use Rattle.page_turnover.specs.Next.{next_operation, Makes, MayMake, ReadsBack}
 use Rattle.page_turnover.specs.Steps.{Keeps}
-use Rattle.page_turnover.specs.ties.Made.{CanMake}
+use Rattle.page_turnover.specs.representation.Made.{CanMake}
 use Rattle.page_turnover.specs.Operates.{MayOperate, may_program, may_erase, FillsAtMostOne}
 use Rattle.page_turnover.specs.Leaves.{Leaves, IsEffect, MakesNoHeader}
 use Rattle.page_turnover.proofs.Headers.{is_active, header_word-small, format-same}

@@ -11,7 +11,7 @@ use Rattle.page_turnover.specs.declared.operation.Operation.{Operation}
 use Rattle.page_turnover.specs.declared.operation.Operation.TheVariants.{Program, Erase}
 use Rattle.page_turnover.specs.Words.{IsBlank}
 use Rattle.page_turnover.specs.Next.{Makes, ProgramsShort, ReadsBack}
-use Rattle.page_turnover.specs.ties.Made.{CanMake, IsMade}
+use Rattle.page_turnover.specs.representation.Made.{CanMake, IsMade}
 use Rattle.page_turnover.proofs.Operating.{programmed_good}
 use Rattle.page_turnover.proofs.Torn.{program_whole, erase_whole}
 use Rattle.page_turnover.proofs.Kept.{erased_free}
@@ -45,11 +45,11 @@ programmed old new operation page slot word e i j c g =
     let k : CanMake old (Program page slot word) = rw e at c in
     rw e (g, programmed_good old new page slot word k.2 i j k.0 k.1 k.3 g)
 
-pub program_judged : (old new : List ℕ) (operation : Operation) (page slot word : ℕ) (held : Bool) → operation ≡ Program page slot word → ((held ≡ true) ↔ (slot_of (slot_at new page slot) ≡ Good word)) → IsImage old → IsImage new → CanMake old operation → MayProgram old page slot (encoded word) new → IsMade old operation held new
-program_judged old new operation page slot word held e h i j c g = rw e (program_read old new page slot word held h i j (rw e at c) g)
+pub program_checked : (old new : List ℕ) (operation : Operation) (page slot word : ℕ) (held : Bool) → operation ≡ Program page slot word → ((held ≡ true) ↔ (slot_of (slot_at new page slot) ≡ Good word)) → IsImage old → IsImage new → CanMake old operation → MayProgram old page slot (encoded word) new → IsMade old operation held new
+program_checked old new operation page slot word held e h i j c g = rw e (program_read old new page slot word held h i j (rw e at c) g)
 
 pub erased : (old new : List ℕ) (operation : Operation) (page : ℕ) → operation ≡ Erase page → Erases old page new → Makes old operation new × ReadsBack operation new
 erased old new operation page e g = rw e (g, λ s a l. erased_free old page new s l g)
 
-pub erase_judged : (old new : List ℕ) (operation : Operation) (page : ℕ) (blank : Bool) → operation ≡ Erase page → ((blank ≡ true) ↔ IsBlank new page) → IsImage new → CanMake old operation → MayErase old page new → IsMade old operation blank new
-erase_judged old new operation page blank e h j c g = rw e (erase_read old new page blank h j (rw e at c) g)
+pub erase_checked : (old new : List ℕ) (operation : Operation) (page : ℕ) (blank : Bool) → operation ≡ Erase page → ((blank ≡ true) ↔ IsBlank new page) → IsImage new → CanMake old operation → MayErase old page new → IsMade old operation blank new
+erase_checked old new operation page blank e h j c g = rw e (erase_read old new page blank h j (rw e at c) g)

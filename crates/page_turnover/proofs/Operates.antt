@@ -5,9 +5,9 @@ use Rattle.page_turnover.specs.Value.{Rest, Append, Wait, Copy, Seal}
 use Rattle.page_turnover.specs.declared.log.stepping.Step.{Step}
 use Rattle.page_turnover.specs.declared.log.stepping.Step.TheVariants.{Idle, Failed}
 use Rattle.page_turnover.specs.Value.{LogValue}
-use Rattle.page_turnover.specs.ties.Log.{Describes}
+use Rattle.page_turnover.specs.representation.Log.{Describes}
 use Rattle.page_turnover.specs.Turn.{copied, target_page, next_seq}
-use Rattle.page_turnover.specs.ties.Turn.{Turning, Copying, Appending, HoldsCopies}
+use Rattle.page_turnover.specs.representation.Turn.{Turning, Copying, Appending, HoldsCopies}
 use Rattle.page_turnover.specs.Steps.{StepsFor, EndsAs}
 use Rattle.page_turnover.specs.Header.{header_word}
 use Rattle.page_turnover.specs.Operates.{Operates, programs, erases}

@@ -9,11 +9,11 @@ use Rattle.page_turnover.specs.Header.{header_word}
 use Rattle.page_turnover.specs.Words.{IsBlank}
 use Rattle.page_turnover.specs.Blank.{is_blank}
 use Rattle.page_turnover.specs.Turn.{target_page, next_seq, copied, HasShortWord}
-use Rattle.page_turnover.specs.ties.Turn.{Appending, Copying, Turning, HoldsCopies, TargetIs}
-use Rattle.page_turnover.specs.ties.Log.{Describes}
+use Rattle.page_turnover.specs.representation.Turn.{Appending, Copying, Turning, HoldsCopies, TargetIs}
+use Rattle.page_turnover.specs.representation.Log.{Describes}
 use Rattle.page_turnover.specs.Next.{next_operation, operation_for, append_operation, turn_operation, is_ready, ProgramsShort}
 use Rattle.page_turnover.specs.Steps.{IsReady, EndsAs, StepsFor}
-use Rattle.page_turnover.specs.ties.Made.{CanMake, CanAdvance, Advances}
+use Rattle.page_turnover.specs.representation.Made.{CanMake, CanAdvance, Advances}
 use Rattle.page_turnover.proofs.Blanks.{is_blank-blank, is_blank-used, blank_of}
 use Rattle.page_turnover.proofs.Headers.{header_word-small, header_word-short}
 use Rattle.page_turnover.proofs.Describing.{held_active, held_inside, room_of_none, tail_room}
@@ -168,7 +168,7 @@ pub copy_erased : (old : List ℕ) (log : LogValue) (operation : Operation) (tar
     → Advances old log operation Moved (record log { task = Copy (Holds 0) word })
 copy_erased old log operation target word page d t p e = copy_erased_by old log operation target word page (is_ready old target) d t p refl (rw t at e)
 
--- the log after a seal
+-- the log after a commit header
 seal_by : (old : List ℕ) (log : LogValue) (operation : Operation) (target : Target) (page slot w seq : ℕ) (test : Bool) → Describes old log → log.task ≡ Seal target → operation ≡ Program page slot w → seq ≡ next_seq old → is_ready old target ≡ test → Some (turn_operation test old 0 (header_word 2 (next_seq old))) ≡ Some operation
     → Advances old log operation Committed (record { active = Some (record { page = page; seq = seq; format = 2; tail = copied target + 1 }); unsound = log.unsound; task = Rest })
 seal_by old log operation target page slot w seq true d t p q r e =

@@ -7,9 +7,9 @@ use Rattle.page_turnover.specs.declared.log.stepping.Step.{Step}
 use Rattle.page_turnover.specs.declared.log.stepping.Step.TheVariants.{Idle, Failed}
 use Rattle.page_turnover.specs.declared.operation.Operation.{Operation}
 use Rattle.page_turnover.specs.Value.{LogValue}
-use Rattle.page_turnover.specs.ties.Log.{Describes}
+use Rattle.page_turnover.specs.representation.Log.{Describes}
 use Rattle.page_turnover.specs.Next.{next_operation, Makes, MayMake, ReadsBack}
-use Rattle.page_turnover.specs.ties.Made.{RaisesFaults}
+use Rattle.page_turnover.specs.representation.Made.{RaisesFaults}
 use Rattle.page_turnover.specs.Steps.{AttemptsNext, CountsAs}
 use Rattle.page_turnover.proofs.Describing.{held_inside}
 

@@ -15,9 +15,9 @@ use Rattle.page_turnover.specs.Words.{IsTail, words_up_to, word_of}
 use Rattle.page_turnover.specs.Usable.{IsUsable, IsFirstUnsound}
 use Rattle.page_turnover.specs.Value.{LogValue}
 use Rattle.page_turnover.specs.Turn.{target_page, next_seq, copied}
-use Rattle.page_turnover.specs.ties.Turn.{HoldsCopies, TargetIs, IsGood}
+use Rattle.page_turnover.specs.representation.Turn.{HoldsCopies, TargetIs, IsGood}
 use Rattle.page_turnover.specs.Steps.{IsReady}
-use Rattle.page_turnover.specs.ties.Log.{Describes, IsHeld}
+use Rattle.page_turnover.specs.representation.Log.{Describes, IsHeld}
 use Rattle.page_turnover.specs.Refusal.{MayTurn}
 use Rattle.page_turnover.proofs.Headers.{is_active, is_none}
 use Rattle.std.proofs.lemmas.Nat.{mod_below}

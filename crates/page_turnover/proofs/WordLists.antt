@@ -9,7 +9,7 @@ use Rattle.flash_model.specs.Operations.{OneSlot}
 use Rattle.flash_model.specs.Image.{slot_at}
 use Rattle.records.specs.Slots.{slot_of}
 use Rattle.page_turnover.specs.Words.{word_of, words_up_to, FreeFrom}
-use Rattle.page_turnover.specs.ties.Words.{words_after}
+use Rattle.page_turnover.specs.representation.Words.{words_after}
 
 -- one slot more
 pub up_to_more : (image : List ℕ) (page slot : ℕ) → 1 ≤ slot → words_up_to image page slot ≡ words_up_to image page (slot - 1) ++ word_of (slot_of (slot_at image page slot))

@@ -1,4 +1,4 @@
--- Believed: the active page of an image.
+-- Trusted: the active page of an image.
 use Rattle.shapes.specs.Shapes.{Bytes}
 use Rattle.std.specs.Prelude.{◌≡◌, ℕ, ◌<◌, ◌≤◌, suc, zero, nat_lt, if◌then◌else◌, Option, Some, None}
 use Rattle.records.specs.declared.Slot.TheVariants.{Good}
@@ -40,7 +40,7 @@ unfoldable pub newest : Bytes → ℕ → Option (ℕ × ℕ)
 newest image zero = None
 newest image (suc n) = newer (newest image n) n (header_of (slot_of (slot_at image n 0)))
 
--- the active page and its sequence number, as a value; by the laws it is the one of `IsActive`
+-- the active page and its sequence number, as a value; by the theorems it is the one of `IsActive`
 unfoldable pub active : Bytes → Option (ℕ × ℕ)
 active image = newest image (page_count image)
 
@@ -49,6 +49,6 @@ abbrev pub format_on : Bytes → Option (ℕ × ℕ) → Option ℕ
 format_on image (Some place) = Some (format_of (slot_of (slot_at image place.0 0)))
 format_on image None = None
 
--- the format of the active page, as a value; by the laws it is the one of `HasFormat`
+-- the format of the active page, as a value; by the theorems it is the one of `HasFormat`
 unfoldable pub format : Bytes → Option ℕ
 format image = format_on image (active image)

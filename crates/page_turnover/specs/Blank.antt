@@ -1,4 +1,4 @@
--- Believed: whether a page is blank, as a test.
+-- Trusted: whether a page is blank, as a test.
 use Rattle.shapes.specs.Shapes.{Bytes}
 use Rattle.std.specs.Prelude.{ℕ, zero, suc, ◌&&◌, Bool, true}
 use Rattle.records.specs.Slots.{slot_of}

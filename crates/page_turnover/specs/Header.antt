@@ -1,4 +1,4 @@
--- Believed: the headers of pages.
+-- Trusted: the headers of pages.
 use Rattle.shapes.specs.Shapes.{Bytes}
 use Rattle.std.specs.Prelude.{◌≡◌, ℕ, ◌+◌, ◌*◌, ◌/◌, ◌%◌, ◌^◌, ◌<◌, ◌==◌, ◌||◌, ◌⊎◌, if◌then◌else◌, Option, Some, None}
 use Rattle.records.specs.declared.Slot.{Slot}

@@ -1,4 +1,4 @@
--- Believed: what the operation that is next leaves, whole or torn: by a fault, or by a cut before anything is read back.
+-- Trusted: what the operation that is next leaves, whole or torn: by a fault, or by a cut before anything is read back.
 use Rattle.shapes.specs.Shapes.{Bytes}
 use Rattle.std.specs.Prelude.{ℕ}
 use Rattle.page_turnover.specs.declared.operation.Operation.{Operation}

@@ -11,4 +11,4 @@ pub mod Steps
 pub mod Refusal
 pub mod Operates
 pub mod Leaves
-pub mod ties
+pub mod representation

@@ -1,4 +1,4 @@
--- Believed: whether a log has room for a record.
+-- Trusted: whether a log has room for a record.
 use Rattle.std.specs.Prelude.{◌≡◌, IsSomeAnd, ◌≤◌}
 use Rattle.page_turnover.specs.Active.{active, format}
 use Rattle.page_turnover.specs.Value.{LogValue}

@@ -1,4 +1,4 @@
--- Believed: the operation that a step of a log makes next.
+-- Trusted: the operation that a step of a log makes next.
 use Rattle.shapes.specs.Shapes.{Bytes}
 use Rattle.std.specs.Prelude.{◌≡◌, ℕ, ◌+◌, ◌^◌, ◌<◌, Bool, true, false, Option, Some, None}
 use Rattle.records.specs.declared.Slot.TheVariants.{Good}
@@ -20,7 +20,7 @@ abbrev pub is_ready : Bytes → Target → Bool
 is_ready image Unread = is_blank image (target_page image)
 is_ready image (Holds n) = true
 
--- the next operation of a turn, by whether its target is ready
+-- the next operation of a compaction, by whether its target is ready
 abbrev pub turn_operation : Bool → Bytes → ℕ → ℕ → Operation
 turn_operation true image slot word = Program (target_page image) slot word
 turn_operation false image slot word = Erase (target_page image)

@@ -1,4 +1,4 @@
--- Believed: what one operation of a log does to the flash, whatever it is for.
+-- Trusted: what one operation of a log does to the flash, whatever it is for.
 use Rattle.shapes.specs.Shapes.{Bytes}
 use Rattle.std.specs.Prelude.{◌≡◌, ℕ, ◌<◌, ◌^◌, Some}
 use Rattle.records.specs.declared.Slot.TheVariants.{Free}

@@ -1,4 +1,4 @@
--- Believed: when a turn is refused.
+-- Trusted: when a compaction is refused.
 use Rattle.std.specs.Prelude.{◌≡◌, ◌-◌, ◌^◌, None, IsSome, IsSomeAnd, MatchOption, ⊤}
 use Rattle.page_turnover.specs.declared.log.turning.TurnRefusal.{TurnRefusal}
 use Rattle.page_turnover.specs.declared.log.turning.TurnRefusal.TheVariants.{Unsound, Worn}
@@ -9,7 +9,7 @@ pub record MayTurn (log : LogValue) : Type 0 where
   pub usable : log.unsound ≡ None
   pub numbered : MatchOption log.active ⊤ (λ a. a.seq ≡ 2 ^ 28 - 1 → ⊥)
 
--- when a turn is refused, and why
+-- when a compaction is refused, and why
 abbrev pub Refuses : LogValue → TurnRefusal → Type 0
 Refuses log Unsound = IsSome log.unsound
 Refuses log Worn = (log.unsound ≡ None) × IsSomeAnd log.active (λ a. a.seq ≡ 2 ^ 28 - 1)

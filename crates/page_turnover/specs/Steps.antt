@@ -1,4 +1,4 @@
--- Believed: what a step of a log does to the image and to what the log holds.
+-- Trusted: what a step of a log does to the image and to what the log holds.
 use Rattle.shapes.specs.Shapes.{Bytes}
 use Rattle.std.specs.Prelude.{◌≡◌, ◌≢◌, ℕ, ◌+◌, ◌%◌, ◌^◌, ◌⊎◌, [], ◌∷◌, ◌++◌, length, Option, Some, None}
 use Rattle.records.specs.Slots.{encoded}
@@ -11,7 +11,7 @@ use Rattle.page_turnover.specs.Header.{header_word}
 use Rattle.page_turnover.specs.Active.{active, format}
 use Rattle.page_turnover.specs.Words.{words, FreeFrom, IsBlank}
 use Rattle.page_turnover.specs.Value.{LogValue, Target, Unread, Holds, Task, Rest, Append, Wait, Copy, Seal}
-use Rattle.page_turnover.specs.ties.Log.{Describes}
+use Rattle.page_turnover.specs.representation.Log.{Describes}
 use Rattle.page_turnover.specs.Turn.{target_page, next_seq, copied, copies, offered, IsPending}
 use Rattle.page_turnover.specs.Next.{Makes, MayMake, ReadsBack}
 

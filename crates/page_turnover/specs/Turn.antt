@@ -1,4 +1,4 @@
--- Believed: the page that a turn writes, and how far it is.
+-- Trusted: the page that a compaction writes, and how far it is.
 use Rattle.shapes.specs.Shapes.{Bytes, SlotWords}
 use Rattle.std.specs.Prelude.{ℕ, ◌+◌, ◌%◌, ◌^◌, ◌<◌, [], ◌∷◌, Option, Some, None}
 use Rattle.flash_model.specs.Image.{page_count}
@@ -12,7 +12,7 @@ abbrev pub page_after : Option (ℕ × ℕ) → ℕ → ℕ
 page_after (Some place) pages = (place.0 + 1) % pages
 page_after None pages = 0
 
--- the page that a turn writes
+-- the page that a compaction writes
 unfoldable pub target_page : Bytes → ℕ
 target_page image = page_after (active image) (page_count image)
 
@@ -21,7 +21,7 @@ abbrev pub seq_after : Option (ℕ × ℕ) → ℕ
 seq_after (Some place) = place.1 + 1
 seq_after None = 1
 
--- the sequence number of the header that a turn writes
+-- the sequence number of the header that a compaction writes
 unfoldable pub next_seq : Bytes → ℕ
 next_seq image = seq_after (active image)
 
@@ -30,12 +30,12 @@ pub record CanTurn (image : Bytes) : Type 0 where
   pub usable : IsUsable image
   pub numbered : next_seq image < 2 ^ 28
 
--- how many copies a turn has made
+-- how many copies a compaction has made
 abbrev pub copied : Target → ℕ
 copied Unread = 0
 copied (Holds n) = n
 
--- the words that a turn has copied: those in the first slots of its target
+-- the words that a compaction has copied: those in the first slots of its target
 abbrev pub copies : Bytes → Task → SlotWords
 copies image (Wait target) = words_up_to image (target_page image) (copied target)
 copies image (Copy target word) = words_up_to image (target_page image) (copied target)
@@ -53,7 +53,7 @@ HasShortWord (Append word) = word < 2 ^ 31
 HasShortWord (Copy target word) = word < 2 ^ 31
 HasShortWord _ = Unit {0}
 
--- a turn waits for a copy or its seal
+-- a compaction waits for a copy or its commit header
 abbrev pub IsWaiting : Task → Type 0
 IsWaiting (Wait target) = Unit {0}
 IsWaiting _ = ⊥
@@ -64,17 +64,17 @@ IsPending Rest = ⊥
 IsPending (Wait target) = ⊥
 IsPending _ = Unit {0}
 
--- a turn waits and has made fewer than 511 copies
+-- a compaction waits and has made fewer than 511 copies
 abbrev pub CanOffer : Task → Type 0
 CanOffer (Wait target) = copied target < 511
 CanOffer _ = ⊥
 
--- a waiting turn that was offered a copy, or its seal
+-- a waiting compaction that was offered a copy, or its commit header
 abbrev pub with_copy : Task → ℕ → Task
 with_copy (Wait target) word = Copy target word
 with_copy task word = task
 
--- a turn that waits gets its seal
+-- a compaction that waits gets its commit header
 abbrev pub with_seal : Task → Task
 with_seal (Wait target) = Seal target
 with_seal task = task

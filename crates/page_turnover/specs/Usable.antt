@@ -1,4 +1,4 @@
--- Believed: whether anything may be written.
+-- Trusted: whether anything may be written.
 use Rattle.shapes.specs.Shapes.{Bytes}
 use Rattle.std.specs.Prelude.{ℕ, ◌<◌}
 use Rattle.records.specs.Slots.{IsSound}

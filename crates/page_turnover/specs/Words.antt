@@ -1,4 +1,4 @@
--- Believed: the words of an image, and the room for more.
+-- Trusted: the words of an image, and the room for more.
 use Rattle.shapes.specs.Shapes.{Bytes, SlotWords}
 use Rattle.std.specs.Prelude.{◌≡◌, ℕ, ◌-◌, ◌<◌, ◌≤◌, suc, zero, [], ◌∷◌, ◌++◌, Option, Some, None}
 use Rattle.records.specs.declared.Slot.{Slot}

@@ -5,7 +5,7 @@ ghost use Rattle.std.specs.Int.{bit_at};
 ghost use Rattle.flash_model.specs.Image.{page_count, slot_at};
 ghost use Rattle.records.specs.Slots.{slot_of};
 ghost use Rattle.records.specs.Blocks.{is_good};
-ghost use Rattle.page_turnover.specs.ties.Blocks.{slots_of};
+ghost use Rattle.page_turnover.specs.representation.Blocks.{slots_of};
 
 use flash_model::{NorFlash, PAGE_SLOTS};
 use records::{Slot, all_ones, kinds8};

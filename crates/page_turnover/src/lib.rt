@@ -7,20 +7,20 @@
 //!
 //! A log makes one flash operation a step. After a fault it reads back what it wrote: an operation
 //! that reads as intended is done, and any other leaves the words as they were. The same holds of an
-//! operation that is cut short by the power (`laws::an_operation_leaves`).
+//! operation that is cut short by the power (`theorems::an_operation_leaves`).
 //!
 //! A `Log` keeps which page is active, its tail, and what is under way; the words stay in the
-//! flash. The promise is that each step leaves the words as they are or commits what is under way,
+//! flash. The guarantee is that each step leaves the words as they are or commits what is under way,
 //! and nothing between the two, also where the power is cut inside it. `keymap_store` calls it, and
 //! whoever keeps settings in NOR flash can.
 #![tactic(auto)]
 
 mod block;
 mod header;
-pub mod laws;
 mod log;
 mod operation;
 mod reading;
+pub mod theorems;
 mod words;
 
 pub use log::{Log, Step, TurnRefusal, Unsound};

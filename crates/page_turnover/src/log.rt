@@ -6,7 +6,7 @@ ghost use Rattle.page_turnover.specs.Active.{active, format};
 ghost use Rattle.page_turnover.specs.Words.{words, HasRoom, IsTail};
 ghost use Rattle.page_turnover.specs.Usable.{IsUsable, IsFirstUnsound};
 ghost use Rattle.page_turnover.specs.Value.{Rest};
-ghost use Rattle.page_turnover.specs.ties.Log.{IsHeld};
+ghost use Rattle.page_turnover.specs.representation.Log.{IsHeld};
 
 mod stepping;
 mod turning;
@@ -38,7 +38,7 @@ pub struct ActivePage {
     pub tail: u16,
 }
 
-/// What is known of the page that a turn writes.
+/// What is known of the page that a compaction writes.
 #[derive(Clone, Copy, Debug)]
 pub enum Target {
     /// Nothing yet: where it is not blank it has to be erased.
@@ -54,21 +54,21 @@ pub enum Task {
     Rest,
     /// The append of a word.
     Append(u32),
-    /// A turn that waits for a copy or its seal.
+    /// A compaction that waits for a copy or its commit header.
     Wait(Target),
-    /// A turn that was offered a copy.
+    /// A compaction that was offered a copy.
     Copy(Target, u32),
-    /// A turn that was offered its seal.
+    /// A compaction that was offered its commit header.
     Seal(Target),
 }
 
 /// A log of words over the pages of a flash.
 ///
 /// A word is appended by `begin_append` and a `step`, where there is `room`. Where there is none, a
-/// turn makes it: `begin_turn`, then for each word that is to stay `offer_copy`, and at the end
-/// `seal`, with steps after each of them until the log `wants` the next or, after the seal, is no
-/// longer `busy`. A blank flash has no room either: it needs a turn and its seal first, without a
-/// copy. A log that is `busy` while `step` answers `Idle` waits for a copy or its seal.
+/// compaction makes it: `begin_turn`, then for each word that is to stay `offer_copy`, and at the end
+/// `seal`, with steps after each of them until the log `wants` the next or, after the commit header, is no
+/// longer `busy`. A blank flash has no room either: it needs a compaction and its commit header first, without a
+/// copy. A log that is `busy` while `step` answers `Idle` waits for a copy or its commit header.
 ///
 /// Of a flash with one unsound slot 0 (`usable`) the words are read, but nothing is ever written, so
 /// no header is lost that a damaged page may have had. No cut and no fault of an operation of a log
@@ -94,7 +94,7 @@ pub struct Log {
 
 impl Model for Log {
     ghost use Rattle.page_turnover.specs.Value.{LogValue};
-    ghost use Rattle.page_turnover.specs.ties.Value.{task_value};
+    ghost use Rattle.page_turnover.specs.representation.Value.{task_value};
 
     ghost Value = { LogValue };
 
@@ -103,7 +103,7 @@ impl Model for Log {
 
 impl Log {
     ghost use Rattle.page_turnover.specs.Log.{HasTailRoom};
-    ghost use Rattle.page_turnover.specs.ties.Log.{Describes};
+    ghost use Rattle.page_turnover.specs.representation.Log.{Describes};
 
     /// Reads the log of a flash, and changes nothing.
     pub fn mount<F: NorFlash>(flash: &F) -> Log
@@ -134,7 +134,7 @@ impl Log {
     }
 
     /// Returns the format of the active page, 1 or 2, if a page has a header. Only pages of format 2
-    /// are written; the words of one of format 1 are read, and the next turn copies them into format
+    /// are written; the words of one of format 1 are read, and the next compaction copies them into format
     /// 2.
     pub fn format(&self) -> Option<u8>
         ensures { (image : List ℕ) → Describes image self.now → result ≡ format image }

@@ -4,7 +4,7 @@ ghost use Rattle.std.specs.Prelude.{◌≡◌, ◌+◌, ◌%◌, ◌^◌, ◌<�
 ghost use Rattle.flash_model.specs.declared.TheConstants.{PAGE_SLOTS};
 ghost use Rattle.flash_model.specs.Image.{page_count, slot_at, IsImage};
 ghost use Rattle.records.specs.Slots.{slot_of};
-ghost use Rattle.page_turnover.specs.ties.Made.{CanMake, IsMade, RaisesFaults};
+ghost use Rattle.page_turnover.specs.representation.Made.{CanMake, IsMade, RaisesFaults};
 ghost use Rattle.page_turnover.specs.Next.{on_flash, ProgramsShort};
 
 use crate::reading::is_blank;

@@ -4,9 +4,9 @@ ghost use Rattle.std.specs.Prelude.{◌≡◌, ◌-◌, ◌<◌, ◌≤◌, []};
 ghost use Rattle.std.specs.Iterator.{YieldsFirst, at_most, item_count};
 ghost use Rattle.flash_model.specs.Image.{page_count, slot_at};
 ghost use Rattle.records.specs.Slots.{slot_of};
-ghost use Rattle.page_turnover.specs.ties.Words.{words_after};
-ghost use Rattle.page_turnover.specs.ties.Blocks.{AreGoodFrom, AreGoodWithin};
-ghost use Rattle.page_turnover.specs.ties.Turn.{IsGood};
+ghost use Rattle.page_turnover.specs.representation.Words.{words_after};
+ghost use Rattle.page_turnover.specs.representation.Blocks.{AreGoodFrom, AreGoodWithin};
+ghost use Rattle.page_turnover.specs.representation.Turn.{IsGood};
 
 use crate::block::{BLOCK_SLOTS, good_in_block};
 use flash_model::{NorFlash, PAGE_SLOTS};
@@ -29,8 +29,8 @@ impl<'a, F: NorFlash> Model for Words<'a, F> {
     ghost use Rattle.std.specs.Prelude.{ℕ, List, ◌-◌, ◌<◌};
     ghost use Rattle.flash_model.specs.declared.TheConstants.{PAGE_SLOTS};
     ghost use Rattle.flash_model.specs.Image.{page_count};
-    ghost use Rattle.page_turnover.specs.ties.Words.{words_after};
-    ghost use Rattle.page_turnover.specs.ties.Blocks.{AreGoodWithin};
+    ghost use Rattle.page_turnover.specs.representation.Words.{words_after};
+    ghost use Rattle.page_turnover.specs.representation.Blocks.{AreGoodWithin};
 
     ghost Value = { List ℕ };
 

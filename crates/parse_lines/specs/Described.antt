@@ -1,4 +1,4 @@
--- Believed: what is printed of the keyboard's own descriptors.
+-- Trusted: what is printed of the keyboard's own descriptors.
 use Rattle.shapes.specs.Shapes.{Bytes}
 use Rattle.std.specs.Prelude.{ℕ, [], ◌∷◌, ◌++◌, codes}
 use Rattle.descriptor_build.specs.Served.{device_bytes, configuration_bytes, report_bytes}

@@ -1,4 +1,4 @@
--- Believed: what a text of hex digits says.
+-- Trusted: what a text of hex digits says.
 use Rattle.shapes.specs.Shapes.{Bytes}
 use Rattle.std.specs.Prelude.{◌≡◌, ℕ, ◌%◌, ◌<◌, ◌==◌, ◌||◌, ◌⊎◌, not, Bool, false, length, filter, slice_index, Ok}
 use Rattle.hex.specs.Hex.{decode_of, is_hex_digit}

@@ -1,4 +1,4 @@
--- Believed: what is printed of a field, of a descriptor's bytes, and of a fault.
+-- Trusted: what is printed of a field, of a descriptor's bytes, and of a fault.
 use Rattle.shapes.specs.Shapes.{Bytes}
 use Rattle.std.specs.Prelude.{ℕ, ◌==◌, if◌then◌else◌, Bool, true, false, List, [], ◌∷◌, ◌++◌, codes, zip}
 use Rattle.std.specs.List.{flat_map}

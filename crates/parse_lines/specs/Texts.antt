@@ -1,4 +1,4 @@
--- Believed: what a text in hex declares, and why it is refused.
+-- Trusted: what a text in hex declares, and why it is refused.
 use Rattle.shapes.specs.Shapes.{Bytes}
 use Rattle.std.specs.Prelude.{◌≡◌, ◌≢◌, ℕ, ◌<◌, ◌≤◌, length, Option, IfSome, ⊤}
 use Rattle.text_io.specs.Readers.{longest}

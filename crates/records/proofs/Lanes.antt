@@ -7,7 +7,7 @@ use Rattle.std.proofs.lemmas.Nat.{and_comm, and_le_l, xor_of_32, pow_pos}
 use Rattle.std.proofs.lemmas.Bool.Decides.{eqb_tells}
 use Rattle.records.specs.Slots.{slot_of, first_half, second_half}
 use Rattle.records.specs.Blocks.{slot_in, is_good, is_free}
-use Rattle.records.specs.ties.Blocks.{number_at}
+use Rattle.records.specs.representation.Blocks.{number_at}
 use Rattle.records.specs.declared.Slot.{Slot}
 use Rattle.std.specs.Simd.Lanes.{zip2, pick_l, chunk, digits_l, number_l, mask_l, Each1}
 use Rattle.std.proofs.lemmas.Simd.{pick_l_left, pick_l-range_with_len, length-chunk, length-zip2, get_or-zip2}

@@ -1,4 +1,4 @@
--- Believed: what a slot can be, and slots side by side.
+-- Trusted: what a slot can be, and slots side by side.
 use Rattle.shapes.specs.Shapes.{Bytes}
 use Rattle.std.specs.Prelude.{ℕ, ◌*◌, Bool, true, false, take, drop}
 use Rattle.records.specs.declared.Slot.{Slot}

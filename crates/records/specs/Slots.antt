@@ -1,4 +1,4 @@
--- Believed: what a slot of eight bytes says.
+-- Trusted: what a slot of eight bytes says.
 use Rattle.shapes.specs.Shapes.{Bytes}
 use Rattle.std.specs.Prelude.{◌≡◌, ℕ, ◌+◌, ◌-◌, ◌<◌, ◌≤◌, ◌^◌, ◌==◌, ◌&&◌, if◌then◌else◌, ◌++◌, length, take, drop, slice_index}
 use Rattle.std.specs.Int.{to_le_bytes, from_le_bytes, bit_at, bit_not, w32}

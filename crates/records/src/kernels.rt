@@ -3,7 +3,7 @@
 ghost use Rattle.std.specs.Prelude.{◌≡◌, ◌+◌, ◌-◌, ◌*◌, ◌^◌, ◌<◌, ◌==◌, ◌↔◌, ℕ, IsTrue, if◌then◌else◌, length, slice_index, bit_and};
 ghost use Rattle.std.specs.Int.{bit_at};
 ghost use Rattle.records.specs.Blocks.{slot_in, is_good, is_free};
-ghost use Rattle.records.specs.ties.Blocks.{number_at};
+ghost use Rattle.records.specs.representation.Blocks.{number_at};
 ghost use Rattle.records.specs.Slots.{slot_of};
 
 use std::simd::prelude::*;

@@ -2,9 +2,9 @@
 //!
 //! A slot is a little-endian 32-bit word followed by the complement of that word. The complement
 //! tells a whole write from a torn one: a write that was cut short leaves a slot that is not Good,
-//! or that is Good with the word that was meant (`laws`).
+//! or that is Good with the word that was meant (`theorems`).
 //!
-//! Nothing is kept. The promise is that what a program of a Free slot or an erase of a sound one
+//! Nothing is kept. The guarantee is that what a program of a Free slot or an erase of a sound one
 //! leaves, where it is torn, is never read as another word. `page_turnover` calls it for each slot
 //! that it reads or writes.
 #![tactic(auto)]
@@ -13,7 +13,7 @@ ghost use Rattle.std.specs.Prelude.{◌≡◌, ◌↔◌, IsTrue};
 ghost use Rattle.records.specs.Slots.{encoded, slot_of, Covers, IsSound};
 
 pub mod kernels;
-pub mod laws;
+pub mod theorems;
 
 pub use kernels::{Kinds, all_ones, kinds8};
 

@@ -8,7 +8,7 @@ use Rattle.host_extract.specs.Numbers.{number_at}
 use Rattle.host_extract.proofs.NumberLemmas.{number-byte}
 use Rattle.report_read.specs.declared.lane.Form.{Form}
 use Rattle.report_read.specs.declared.lane.Form.TheVariants.{Byte}
-use Rattle.report_read.specs.ties.Lanes.{IsForm}
+use Rattle.report_read.specs.representation.Lanes.{IsForm}
 
 are_bytes : (field : Field) (form : Form) → form ≡ Byte → IsForm field form → (field.size ≡ 8) × (field.bit % 8 ≡ 0) × (int_lt field.min (pos 0) ≡ false)
 are_bytes field form e is = rw e at is

@@ -14,7 +14,7 @@ use Rattle.report_read.specs.declared.error.ReadingError.TheVariants.{OtherId}
 use Rattle.report_read.specs.Refusals.{refusal}
 use Rattle.report_read.specs.Values.{ReaderValue, reading}
 use Rattle.report_read.specs.Changes.{on_by, on_by_all, changes_refusal}
-use Rattle.report_read.specs.ties.Listed.{listed}
+use Rattle.report_read.specs.representation.Listed.{listed}
 
 pub gathered_none : (d : DescriptorValue) (left : List Value) (now all : List ℕ) → left ≡ [] → now ++ on_by_all d left ≡ all → now ≡ all
 unfolding on_by_all

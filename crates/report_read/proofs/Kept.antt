@@ -12,7 +12,7 @@ use Rattle.std.proofs.lemmas.List.Kept.{AllPairs-from_increasing, IsStrictlyIncr
 use Rattle.std.proofs.lemmas.List.Sorted.{searched}
 use Rattle.std.proofs.lemmas.Grind.{get_or_default_zero}
 use Rattle.report_read.specs.Changes.{AreRising, AreOnlyIn}
-use Rattle.report_read.specs.ties.Listed.{is_listed}
+use Rattle.report_read.specs.representation.Listed.{is_listed}
 
 -- ---- whether a list has a usage
 

@@ -9,7 +9,7 @@ use Rattle.report_write.specs.declared.kept.Kept.{Kept}
 use Rattle.report_read.specs.declared.value.Value.{Value}
 use Rattle.report_read.specs.declared.lane.Lane.{Lane}
 use Rattle.report_read.specs.Values.{value_of, values_of_field}
-use Rattle.report_read.specs.ties.Lanes.{IsLane, IsPlace, values_of_lanes}
+use Rattle.report_read.specs.representation.Lanes.{IsLane, IsPlace, values_of_lanes}
 
 -- the values from a place on
 from_place : {A : Type 0} (f : ℕ → A) (first n k : ℕ) (xs : List A) → k < n

@@ -9,7 +9,7 @@ use Rattle.report_write.specs.Fields.{kept_fields}
 use Rattle.report_read.specs.declared.lane.Lane.{Lane}
 use Rattle.report_read.specs.declared.error.ReadingError.TheVariants.{Empty, UnknownReport, Short}
 use Rattle.report_read.specs.Values.{ReaderValue, ReadingValue, reading}
-use Rattle.report_read.specs.ties.Lanes.{values_of_lanes}
+use Rattle.report_read.specs.representation.Lanes.{values_of_lanes}
 use Rattle.report_read.proofs.Lists.{values_of_kept}
 use Rattle.report_read.specs.Refusals.{refusal, refused_by_len}
 

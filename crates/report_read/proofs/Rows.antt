@@ -8,7 +8,7 @@ use Rattle.descriptor_parse.specs.Tags.{same_kind}
 use Rattle.descriptor_parse.specs.Descriptor.{DescriptorValue}
 use Rattle.report_write.specs.Fields.{kept_if, kept_below}
 use Rattle.report_read.specs.declared.reader.Plans.{Plans}
-use Rattle.report_read.specs.ties.Plans.{IsPlan, plan_on}
+use Rattle.report_read.specs.representation.Plans.{IsPlan, plan_on}
 
 other_id : (a b : ℕ) → a < b → eqb a b ≡ false
 other_id a b l = grind arith

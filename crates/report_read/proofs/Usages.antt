@@ -9,7 +9,7 @@ use Rattle.field_values.specs.Values.{usage_read}
 use Rattle.report_read.specs.declared.lane.Lane.{Lane}
 use Rattle.report_read.specs.declared.lane.Way.{Way}
 use Rattle.report_read.specs.declared.lane.Way.TheVariants.{Own}
-use Rattle.report_read.specs.ties.Lanes.{IsLane, IsOne, IsWay}
+use Rattle.report_read.specs.representation.Lanes.{IsLane, IsOne, IsWay}
 
 nothing_in : (place : ℕ) → slice_get (usage_list []) place ≡ None
 unfolding usage_list

@@ -1,4 +1,4 @@
 pub mod Values
 pub mod Refusals
-pub mod ties
+pub mod representation
 pub mod Changes

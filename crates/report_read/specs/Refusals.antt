@@ -1,4 +1,4 @@
--- Believed: which reports are not read.
+-- Trusted: which reports are not read.
 use Rattle.shapes.specs.Shapes.{Bytes}
 use Rattle.std.specs.Prelude.{ℕ, nat_lt, if◌then◌else◌, [], ◌∷◌, length, Option, Some, None}
 use Rattle.descriptor_parse.specs.declared.field.Kind.{Kind}

@@ -1,4 +1,4 @@
--- Believed: the values of a report (HID 1.11, 5.6, 5.8, 5.10 and 6.2.2.5).
+-- Trusted: the values of a report (HID 1.11, 5.6, 5.8, 5.10 and 6.2.2.5).
 use Rattle.shapes.specs.Shapes.{Bytes}
 use Rattle.std.specs.Prelude.{ℕ, Bool, List, map, drop, flat_map, unwrap_or}
 use Rattle.descriptor_parse.specs.declared.field.Kind.{Kind}

@@ -5,7 +5,7 @@ ghost use Rattle.std.specs.List.Sorted.{IsStrictlyIncreasing};
 ghost use Rattle.report_read.specs.declared.error.ReadingError.{ReadingError};
 ghost use Rattle.report_read.specs.Refusals.{refusal};
 ghost use Rattle.report_read.specs.Changes.{control, is_of_array, counts, on_by, on_by_all, on_in, AreRising, AreOnlyIn, changes_refusal};
-ghost use Rattle.report_read.specs.ties.Listed.{is_listed, listed};
+ghost use Rattle.report_read.specs.representation.Listed.{is_listed, listed};
 
 use crate::error::ReadingError;
 use crate::reader::ReportReader;
@@ -28,7 +28,7 @@ pub struct Changed {
 /// whose value isn't 0. Values outside the logical extents count for none, nulls among them, and a usage whose low half is 0
 /// is none.
 ///
-/// 07:01 to 07:03 of a keyboard (ErrorRollOver, POSTFail, ErrorUndefined) are told as any usage. They are no keys: a report
+/// 07:01 to 07:03 of a keyboard (ErrorRollOver, POSTFail, ErrorUndefined) are reported as any usage. They are no keys: a report
 /// with one of them does not tell which keys are down.
 ///
 /// The errors are those of [`ReportReader::read`], and then `Memory`.

@@ -3,7 +3,7 @@
 use std::alloc::AllocError;
 use thiserror::Error;
 
-/// Why a report is not read. Where several hold, the first is told.
+/// Why a report is not read. Where several hold, the first is reported.
 #[derive(Clone, Copy, Debug, PartialEq, Eq, Error)]
 pub enum ReadingError {
     /// The report has no byte.

@@ -3,13 +3,13 @@
 ghost use Rattle.std.specs.Prelude.{◌≡◌, ◌+◌, ◌^◌, ◌<◌, ◌≤◌, ℕ, [], ◌∷◌, All, min, slice_get, slice_index};
 ghost use Rattle.descriptor_parse.specs.Descriptor.{ranges_at, usage_list};
 ghost use Rattle.descriptor_parse.specs.WellFormed.{IsRange};
-ghost use Rattle.host_extract.specs.ties.Fits.{FitsReading};
+ghost use Rattle.host_extract.specs.representation.Fits.{FitsReading};
 ghost use Rattle.host_extract.specs.Found.{value_at};
 ghost use Rattle.field_values.specs.Held.{is_within};
 ghost use Rattle.field_values.specs.Values.{where_is, usage_read};
-ghost use Rattle.report_write.specs.ties.Fits.{FitsKept};
+ghost use Rattle.report_write.specs.representation.Fits.{FitsKept};
 ghost use Rattle.report_read.specs.Values.{value_of};
-ghost use Rattle.report_read.specs.ties.Lanes.{IsLane, IsForm, IsWay};
+ghost use Rattle.report_read.specs.representation.Lanes.{IsLane, IsForm, IsWay};
 
 use crate::value::Value;
 use descriptor_parse::{Descriptor, Field};

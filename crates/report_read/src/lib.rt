@@ -2,8 +2,8 @@
 //!
 //! A [`ReportReader`] is made once of a descriptor. [`ReportReader::read`] gives the values of a report of any kind one by one,
 //! in the order of its fields and their places: each with its field and place, the usage that it has or names, the number in
-//! its bits and where that is by the logical extents. The promise is that each value is exactly what the descriptor says, that
-//! none is left out, which refusal is told, and which bytes are past the end.
+//! its bits and where that is by the logical extents. The guarantee is that each value is exactly what the descriptor says, that
+//! none is left out, which refusal is reported, and which bytes are past the end.
 //!
 //! ```
 //! let reader = ReportReader::new(alloc, descriptor, null_states)?;

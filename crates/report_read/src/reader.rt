@@ -7,8 +7,8 @@ ghost use Rattle.host_extract.specs.Found.{id_of, bytes_of};
 ghost use Rattle.report_write.specs.Fields.{kept_fields};
 ghost use Rattle.report_read.specs.Values.{reading};
 ghost use Rattle.report_read.specs.Refusals.{refusal};
-ghost use Rattle.report_read.specs.ties.Lanes.{IsLane};
-ghost use Rattle.report_read.specs.ties.Plans.{IsPlan, ArePlans, plan_on};
+ghost use Rattle.report_read.specs.representation.Lanes.{IsLane};
+ghost use Rattle.report_read.specs.representation.Plans.{IsPlan, ArePlans, plan_on};
 
 use crate::error::ReadingError;
 use crate::lane::Lane;
@@ -45,7 +45,7 @@ pub struct ReportReader {
 
 impl Model for ReportReader {
     ghost use Rattle.report_read.specs.Values.{ReaderValue};
-    ghost use Rattle.report_read.specs.ties.Plans.{ArePlans};
+    ghost use Rattle.report_read.specs.representation.Plans.{ArePlans};
 
     ghost Value = { ReaderValue };
 

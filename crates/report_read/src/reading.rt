@@ -2,7 +2,7 @@
 
 ghost use Rattle.std.specs.Prelude.{◌≡◌, ◌<◌, [], ◌∷◌, All, MatchOption};
 ghost use Rattle.std.specs.Iterator.{YieldsFirst, item_count};
-ghost use Rattle.report_read.specs.ties.Lanes.{IsLane, values_of_lanes};
+ghost use Rattle.report_read.specs.representation.Lanes.{IsLane, values_of_lanes};
 
 use crate::lane::Lane;
 use crate::value::Value;
@@ -26,7 +26,7 @@ pub struct Reading<'a> {
 impl<'a> Model for Reading<'a> {
     ghost use Rattle.std.specs.Prelude.{All, drop};
     ghost use Rattle.report_read.specs.Values.{ReadingValue};
-    ghost use Rattle.report_read.specs.ties.Lanes.{IsLane, IsPlace, values_of_lanes};
+    ghost use Rattle.report_read.specs.representation.Lanes.{IsLane, IsPlace, values_of_lanes};
 
     ghost Value = { ReadingValue };
 

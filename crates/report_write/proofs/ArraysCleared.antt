@@ -9,7 +9,7 @@ use Rattle.field_values.specs.Places.{IsOutside}
 use Rattle.field_values.specs.Held.{place_bit, has_bits}
 use Rattle.field_values.specs.Values.{usage_read}
 use Rattle.field_values.proofs.Reading.{others_stay, same_number, apart, later_place}
-use Rattle.report_write.specs.ties.Fits.{FitsRoom}
+use Rattle.report_write.specs.representation.Fits.{FitsRoom}
 use Rattle.report_write.specs.Controls.{is_usage}
 use Rattle.report_write.specs.Puts.{IsPut, ArePut}
 use Rattle.report_write.specs.Arrays.{names}

@@ -12,7 +12,7 @@ use Rattle.report_write.specs.declared.kept.Kept.{Kept}
 use Rattle.report_write.specs.declared.control.Control.TheVariants.{Place, Usage}
 use Rattle.report_write.specs.declared.setting.Target.TheVariants as target
 use Rattle.report_write.specs.Controls.{is_usage, number_of, places_with, controls_in, controls, control_of, place_in}
-use Rattle.report_write.specs.ties.Fits.{FitsKept, FitsControl}
+use Rattle.report_write.specs.representation.Fits.{FitsKept, FitsControl}
 use Rattle.report_write.proofs.Controls.{controls_are}
 
 pub by_usage : (d : DescriptorValue) (kept : List Kept) (usage place : ℕ)

@@ -14,7 +14,7 @@ use Rattle.field_values.specs.Nulls.{null_of}
 use Rattle.field_values.specs.Lists.{is_no_control, is_unused}
 use Rattle.field_values.proofs.NullLemmas.{null_is_null}
 use Rattle.report_write.specs.declared.kept.Kept.{Kept}
-use Rattle.report_write.specs.ties.Fits.{FitsRoom}
+use Rattle.report_write.specs.representation.Fits.{FitsRoom}
 use Rattle.report_write.specs.Firsts.{first}
 use Rattle.report_write.specs.Unused.{unused, id_zero}
 use Rattle.report_write.specs.Begins.{empty, cannot_be_empty, IsFilledWith, IsFilledIf, IsEmptyUpTo, IsNeverEmpty}

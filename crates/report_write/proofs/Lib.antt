@@ -14,6 +14,6 @@ mod Untouched
 mod Held
 mod ArraysFound
 mod ArraysGone
-mod LawsHold
+mod TheoremsHold
 mod ArraysNamed
-mod ArrayLaws
+mod ArrayTheorems

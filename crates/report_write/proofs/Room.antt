@@ -14,7 +14,7 @@ use Rattle.descriptor_parse.specs.Readers.{is_of_report}
 use Rattle.descriptor_parse.specs.WellFormed.{FitsField, IsWellFormed, IsRange}
 use Rattle.report_write.specs.declared.kept.Kept.{Kept}
 use Rattle.report_write.specs.Fields.{kept, kept_below}
-use Rattle.report_write.specs.ties.Fits.{FitsRoom, FitsKept}
+use Rattle.report_write.specs.representation.Fits.{FitsRoom, FitsKept}
 
 -- ---- fields up to one
 

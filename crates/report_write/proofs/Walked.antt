@@ -9,7 +9,7 @@ use Rattle.descriptor_parse.specs.Descriptor.{usage_list, usage_of_place}
 use Rattle.descriptor_parse.proofs.CountLemmas.{len_step, in_range, place_within}
 use Rattle.descriptor_parse.proofs.UsageLemmas.{no_usages}
 use Rattle.report_write.specs.Controls.{is_usage, places_with}
-use Rattle.report_write.specs.ties.Walks.{before, IsOwn, IsPlaceOf, AreServed}
+use Rattle.report_write.specs.representation.Walks.{before, IsOwn, IsPlaceOf, AreServed}
 use Rattle.report_write.proofs.Controls.{no_place, with_usage, without_usage, place_found}
 
 -- how many of the first places have a usage

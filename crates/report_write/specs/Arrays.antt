@@ -1,4 +1,4 @@
--- Believed: a usage that is put into an Array, or taken out of it (HID 1.11, 6.2.2.5).
+-- Trusted: a usage that is put into an Array, or taken out of it (HID 1.11, 6.2.2.5).
 use Rattle.shapes.specs.Shapes.{Bytes, UsageList}
 use Rattle.std.specs.Prelude.{◌≡◌, ℕ, if◌then◌else◌, not, ◌&&◌, Bool, ℤ, pos, ◌+ℤ◌, int_lt, Option, Some, None, is_some}
 use Rattle.std.specs.Ordering.{int_eq}

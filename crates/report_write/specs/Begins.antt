@@ -1,4 +1,4 @@
--- Believed: which bytes settings are written onto, and why there are none.
+-- Trusted: which bytes settings are written onto, and why there are none.
 use Rattle.shapes.specs.Shapes.{Bytes}
 use Rattle.std.specs.Prelude.{◌≡◌, ℕ, zero, suc, ◌-◌, ◌*◌, ◌<◌, ◌==◌, if◌then◌else◌, nat_lt, not, ◌&&◌, Bool, true, false, List, [], ◌∷◌, length, replicate, slice_get, ℤ, Option, Some, None}
 use Rattle.std.specs.Option.{is_none}

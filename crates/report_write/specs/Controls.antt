@@ -1,4 +1,4 @@
--- Believed: which control of a report a setting means.
+-- Trusted: which control of a report a setting means.
 use Rattle.shapes.specs.Shapes.{UsageList}
 use Rattle.std.specs.Prelude.{ℕ, zero, suc, ◌==◌, if◌then◌else◌, nat_lt, Bool, false, List, [], ◌∷◌, ◌++◌, flat_map, map, slice_get, find, Option, Some, None, is_some}
 use Rattle.std.specs.List.{position}

@@ -1,4 +1,4 @@
--- Believed: the fields of one report, each with its number and whether it has Null State.
+-- Trusted: the fields of one report, each with its number and whether it has Null State.
 use Rattle.std.specs.Prelude.{ℕ, zero, suc, if◌then◌else◌, Bool, false, List, [], ◌∷◌, ◌++◌, length, slice_get, Option, Some, None, unwrap_or}
 use Rattle.descriptor_parse.specs.declared.field.Kind.{Kind}
 use Rattle.descriptor_parse.specs.declared.field.Field.{Field}

@@ -1,4 +1,4 @@
--- Believed: the first number that passes a test.
+-- Trusted: the first number that passes a test.
 use Rattle.std.specs.Prelude.{ℕ, zero, suc, if◌then◌else◌, Bool, Option, Some, None}
 use Rattle.std.specs.Option.{option_or}
 

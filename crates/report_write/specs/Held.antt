@@ -1,4 +1,4 @@
--- Believed: settings that ask for what a report holds.
+-- Trusted: settings that ask for what a report holds.
 use Rattle.shapes.specs.Shapes.{Bytes, UsageList}
 use Rattle.std.specs.Prelude.{◌≡◌, ℕ, List, slice_get, pos, ◌+ℤ◌, Some}
 use Rattle.descriptor_parse.specs.declared.field.Field.{Field}

@@ -9,4 +9,4 @@ pub mod Begins
 pub mod Written
 pub mod Untouched
 pub mod Held
-pub mod ties
+pub mod representation

@@ -1,4 +1,4 @@
--- Believed: what a place that is set leaves in a report; marks stand beside the bits of a report, on at the first bit of each
+-- Trusted: what a place that is set leaves in a report; marks stand beside the bits of a report, on at the first bit of each
 -- place that was set.
 use Rattle.shapes.specs.Shapes.{Bytes}
 use Rattle.std.specs.Prelude.{◌≡◌, ◌≢◌, ℕ, ◌==◌, ◌<◌, Bool, true, length, ℤ}

@@ -1,4 +1,4 @@
--- Believed: what settings do to a report, one after the other, and which of them is the first that is refused.
+-- Trusted: what settings do to a report, one after the other, and which of them is the first that is refused.
 use Rattle.shapes.specs.Shapes.{Bytes, UsageList}
 use Rattle.std.specs.Prelude.{◌≡◌, ℕ, zero, suc, if◌then◌else◌, Bool, true, false, List, slice_get, ℤ, pos, Option, Some, None}
 use Rattle.std.specs.Option.{option_map}
@@ -21,17 +21,17 @@ use Rattle.report_write.specs.Puts.{IsPut, IsMarked, is_set}
 use Rattle.report_write.specs.Arrays.{usage_refusal, IsOn, IsOff}
 
 -- a refusal of a place, told of the setting with a number
-abbrev pub told : ℕ → PlaceError → WriteError
-told number place_error.NoPlace = error.Unknown number
-told number place_error.Short = error.Short
-told number place_error.NoNull = error.NoNull number
-told number place_error.TooLarge = error.TooLarge number
-told number place_error.OutOfRange = error.OutOfRange number
+abbrev pub as_write_error : ℕ → PlaceError → WriteError
+as_write_error number place_error.NoPlace = error.Unknown number
+as_write_error number place_error.Short = error.Short
+as_write_error number place_error.NoNull = error.NoNull number
+as_write_error number place_error.TooLarge = error.TooLarge number
+as_write_error number place_error.OutOfRange = error.OutOfRange number
 
 -- why a place is not set, if it is not: first because it is set already
 abbrev pub place_refusal : Kept → ℕ → Bytes → Bytes → ℕ → Asked → Option WriteError
 place_refusal kept place bytes marks number asked =
-    if is_set kept.field marks place then Some (error.Twice number) else option_map (told number) (asked_refusal kept.field kept.null_state bytes place asked)
+    if is_set kept.field marks place then Some (error.Twice number) else option_map (as_write_error number) (asked_refusal kept.field kept.null_state bytes place asked)
 
 -- why a control is not set, if it is not
 abbrev pub control_refusal : DescriptorValue → Bytes → Bytes → ℕ → Asked → Option Control → Option WriteError

@@ -1,4 +1,4 @@
--- Believed: the bits that settings leave as they were.
+-- Trusted: the bits that settings leave as they were.
 use Rattle.std.specs.Prelude.{◌≡◌, ℕ, ◌+◌, ◌*◌, ◌<◌, ◌≤◌, List, slice_get, Some}
 use Rattle.descriptor_parse.specs.Descriptor.{DescriptorValue}
 use Rattle.field_values.specs.Held.{place_bit}

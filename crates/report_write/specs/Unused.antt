@@ -1,4 +1,4 @@
--- Believed: the value by which a place of an Array says that it names no usage (HID 1.11, 6.2.2.5).
+-- Trusted: the value by which a place of an Array says that it names no usage (HID 1.11, 6.2.2.5).
 use Rattle.shapes.specs.Shapes.{UsageList}
 use Rattle.std.specs.Prelude.{if◌then◌else◌, ◌&&◌, length, slice_get, ℤ, pos, ◌+ℤ◌, Option, Some, None}
 use Rattle.std.specs.Option.{option_map, option_or}

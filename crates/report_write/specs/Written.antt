@@ -1,4 +1,4 @@
--- Believed: a report that is written, and why none is.
+-- Trusted: a report that is written, and why none is.
 use Rattle.shapes.specs.Shapes.{Bytes}
 use Rattle.std.specs.Prelude.{◌≡◌, ℕ, if◌then◌else◌, Bool, List, ◌∷◌, length, replicate, Option, Some, None, ◌⊎◌}
 use Rattle.descriptor_parse.specs.declared.field.Kind.{Kind}
@@ -46,7 +46,7 @@ pub record IsUnusedRefused (d : DescriptorValue) (null_states : List Bool) (kind
   pub known : report_len d kind id ≡ Some len
   pub new : onto ≡ None
   pub cannot : IsNeverEmpty d (kept_fields d null_states kind id) field
-  pub told : e ≡ NoUnused field
+  pub as_write_error : e ≡ NoUnused field
 
 -- The first reason that holds: no such report, or the one that is given is another or too short; an Array that can't be empty;
 -- the first setting that is refused.

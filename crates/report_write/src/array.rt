@@ -3,9 +3,9 @@
 
 ghost use Rattle.std.specs.Prelude.{◌≡◌, ◌*◌, ◌<◌, ◌&&◌, length, true, None, Some, IfSome, IfOk, IfErr, is_some};
 ghost use Rattle.descriptor_parse.specs.Descriptor.{ranges_at, usage_list};
-ghost use Rattle.host_extract.specs.ties.Fits.{FitsReading};
+ghost use Rattle.host_extract.specs.representation.Fits.{FitsReading};
 ghost use Rattle.field_values.specs.Held.{is_held};
-ghost use Rattle.report_write.specs.ties.Fits.{FitsKept, FitsRoom};
+ghost use Rattle.report_write.specs.representation.Fits.{FitsKept, FitsRoom};
 ghost use Rattle.report_write.specs.Firsts.{first};
 ghost use Rattle.report_write.specs.Controls.{number_of};
 ghost use Rattle.report_write.specs.Unused.{unused};

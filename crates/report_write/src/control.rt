@@ -3,12 +3,12 @@
 ghost use Rattle.std.specs.Prelude.{ℕ, ◌≡◌, ◌==◌, ◌+◌, ◌<◌, false, All, IfSome, IfOk, IfErr, length, slice_get, find, Some};
 ghost use Rattle.descriptor_parse.specs.Descriptor.{usage_list};
 ghost use Rattle.report_write.specs.Controls.{is_usage, places_with, controls_in, controls, control_of, place_in};
-ghost use Rattle.report_write.specs.ties.Fits.{FitsKept, FitsControl};
-ghost use Rattle.report_write.specs.ties.Walks.{IsPlaceOf, AreServed};
+ghost use Rattle.report_write.specs.representation.Fits.{FitsKept, FitsControl};
+ghost use Rattle.report_write.specs.representation.Walks.{IsPlaceOf, AreServed};
 
 use crate::kept::{Kept, usages_of};
 use crate::setting::Target;
-use crate::unused::start_of;
+use crate::unused::first_place;
 use descriptor_parse::{Descriptor, FieldUsages};
 use field_values::number_of_usage;
 
@@ -106,7 +106,7 @@ fn place_in_range(declared: &FieldUsages<'_>, range: usize, usage: u32) -> Optio
     if usage < first || last < usage {
         return None;
     }
-    let place = start_of(declared, range) as u64 + (usage - first) as u64;
+    let place = first_place(declared, range) as u64 + (usage - first) as u64;
     if place < declared.field.count as u64 {
         Some(place as u16)
     } else {
@@ -119,7 +119,7 @@ fn served_by_last(declared: &FieldUsages<'_>, usage: u32) -> u16
     requires { declared.now.field.array ≡ false }
     ensures { AreServed declared.now.field (usage_list declared.now.ranges.now) usage result }
 {
-    let listed = start_of(declared, declared.ranges.len());
+    let listed = first_place(declared, declared.ranges.len());
     if listed < declared.field.count as u32 && is_usage(declared.usage(listed as usize), usage) {
         declared.field.count - listed as u16
     } else {

@@ -2,7 +2,7 @@
 
 ghost use Rattle.std.specs.Prelude.{ℕ, ◌≡◌, ◌*◌, length, true, false, All, IfOk, IfErr};
 ghost use Rattle.report_write.specs.declared.setting.WriteError.{WriteError};
-ghost use Rattle.report_write.specs.ties.Fits.{FitsKept};
+ghost use Rattle.report_write.specs.representation.Fits.{FitsKept};
 ghost use Rattle.report_write.specs.Begins.{empty, cannot_be_empty, IsFilledIf, IsEmptyUpTo, IsNeverEmpty};
 
 use crate::kept::{Kept, usages_of};

@@ -4,7 +4,7 @@ ghost use Rattle.std.specs.Prelude.{◌≡◌, false, All, IfOk, slice_get, unwr
 ghost use Rattle.descriptor_parse.specs.Descriptor.{ranges_at, bits_of};
 ghost use Rattle.descriptor_parse.specs.Readers.{is_of_report};
 ghost use Rattle.report_write.specs.Fields.{kept_fields};
-ghost use Rattle.report_write.specs.ties.Fits.{FitsKept};
+ghost use Rattle.report_write.specs.representation.Fits.{FitsKept};
 
 use descriptor_parse::{Descriptor, Field, FieldUsages, Kind};
 use std::alloc::{AllocError, Global};

@@ -3,8 +3,8 @@
 //! [`write`] writes a report of any kind from settings: each names a control, by its usage and the place among those that have
 //! it or by field and place, and what it is set to, a value or none. Each other bit is that of the report that is given; in a
 //! new one places with Null State are null where there is a value for it, Arrays name no usage, and the rest is 0. The
-//! promise is that what is read of a control that was set is what was asked for, that no other bit changes, and which
-//! refusal is told.
+//! guarantee is that what is read of a control that was set is what was asked for, that no other bit changes, and which
+//! refusal is reported.
 //!
 //! Nothing is kept.
 #![tactic(auto)]
@@ -14,9 +14,9 @@ mod begin;
 mod control;
 mod fill;
 mod kept;
-pub mod laws;
 mod place;
 mod setting;
+pub mod theorems;
 mod unused;
 mod writing;
 

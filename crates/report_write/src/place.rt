@@ -1,10 +1,10 @@
 //! One place that is set.
 
 ghost use Rattle.std.specs.Prelude.{◌≡◌, ◌<◌, length, true, None, Some, IfOk, IfErr};
-ghost use Rattle.host_extract.specs.ties.Fits.{FitsReading};
+ghost use Rattle.host_extract.specs.representation.Fits.{FitsReading};
 ghost use Rattle.field_values.specs.Held.{is_held, has_bits, place_bit};
 ghost use Rattle.report_write.specs.Puts.{IsPut, IsMarked, is_set};
-ghost use Rattle.report_write.specs.Settings.{place_refusal, told, IsPlaceSet};
+ghost use Rattle.report_write.specs.Settings.{place_refusal, as_write_error, IsPlaceSet};
 
 use crate::kept::Kept;
 use crate::setting::WriteError;
@@ -33,15 +33,15 @@ pub(crate) fn set_one(
         return Err(WriteError::Twice(number));
     }
     if let Err(error) = set_place(&kept.field, kept.null_state, bytes, place, asked) {
-        return Err(told(number, error));
+        return Err(as_write_error(number, error));
     }
     mark(&kept.field, marks, place);
     Ok(())
 }
 
 /// A refusal of a place, told of the setting with a number.
-fn told(number: usize, error: PlaceError) -> WriteError
-    ensures { result ≡ told number error }
+fn as_write_error(number: usize, error: PlaceError) -> WriteError
+    ensures { result ≡ as_write_error number error }
 {
     match error {
         PlaceError::NoPlace => WriteError::Unknown(number),

@@ -35,7 +35,7 @@ pub struct Setting {
     pub asked: Asked,
 }
 
-/// Why nothing is written. The first four are of the report: the first that holds is told. The others but `Memory` are of a
+/// Why nothing is written. The first four are of the report: the first that holds is reported. The others but `Memory` are of a
 /// setting, by its number from 0, and are told of the first one that is refused: of several the first in this order, but for a
 /// usage of an Array, which is refused as `NoNull`, `OutOfRange` where it is set to neither 0 nor 1, `TooLarge`, `OutOfRange`,
 /// `NoRoom` or `Twice`.

@@ -4,7 +4,7 @@ ghost use Rattle.std.specs.Prelude.{ℕ, ℤ, ◌≡◌, ◌≤◌, false, None,
 ghost use Rattle.descriptor_parse.specs.Descriptor.{usage_list};
 ghost use Rattle.field_values.specs.Lists.{is_unused};
 ghost use Rattle.report_write.specs.Unused.{unused, id_zero};
-ghost use Rattle.report_write.specs.ties.Fits.{FitsRoom};
+ghost use Rattle.report_write.specs.representation.Fits.{FitsRoom};
 
 use descriptor_parse::FieldUsages;
 use field_values::{is_unused, null_of};
@@ -34,7 +34,7 @@ fn past_list(declared: &FieldUsages<'_>) -> i64
     requires { (room : ℕ) × FitsRoom room declared.now.field declared.now.ranges.now }
     ensures { result ≡ declared.now.field.min +ℤ pos (length (usage_list declared.now.ranges.now)) }
 {
-    declared.field.min + start_of(declared, declared.ranges.len()) as i64
+    declared.field.min + first_place(declared, declared.ranges.len()) as i64
 }
 
 /// The first value in the order of the list that names a usage whose low half is 0.
@@ -44,7 +44,7 @@ fn id_zero(declared: &FieldUsages<'_>) -> Option<i64>
 {
     for range in 0..declared.ranges.len() {
         if declared.ranges[range].0 % 0x1_0000 == 0 {
-            let value = declared.field.min + start_of(declared, range) as i64;
+            let value = declared.field.min + first_place(declared, range) as i64;
             if is_unused(declared, value) {
                 return Some(value);
             }
@@ -54,7 +54,7 @@ fn id_zero(declared: &FieldUsages<'_>) -> Option<i64>
 }
 
 /// How many usages stand before a range.
-pub(crate) fn start_of(declared: &FieldUsages<'_>, range: usize) -> u32
+pub(crate) fn first_place(declared: &FieldUsages<'_>, range: usize) -> u32
     requires { range ≤ length declared.now.ranges.now }
     ensures { result ≡ length (usage_list (take range declared.now.ranges.now)) }
 {

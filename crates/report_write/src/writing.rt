@@ -4,7 +4,7 @@ ghost use Rattle.std.specs.Prelude.{ℕ, ◌≡◌, ◌≢◌, ◌*◌, ◌≤�
 ghost use Rattle.std.specs.Option.{option_map};
 ghost use Rattle.descriptor_parse.specs.Descriptor.{bits_of, report_len};
 ghost use Rattle.report_write.specs.declared.setting.WriteError.{WriteError};
-ghost use Rattle.report_write.specs.ties.Fits.{FitsKept};
+ghost use Rattle.report_write.specs.representation.Fits.{FitsKept};
 ghost use Rattle.report_write.specs.Settings.{refusal_at, IsSet, IsAfter, IsRefused};
 ghost use Rattle.report_write.specs.Begins.{begin_refusal, given_refusal, IsStart, IsNeverEmpty};
 ghost use Rattle.report_write.specs.Written.{IsWritten, IsNotWritten};
@@ -23,7 +23,7 @@ use std::alloc::Global;
 /// descriptor has Null State, and one that it has no word of has none.
 ///
 /// Each other bit is that of `onto`, also past the end of the report; in a new report places with Null State are null, where
-/// the field has a value for it, places of Arrays name no usage, and the rest is 0. `Memory` is told only where there is the
+/// the field has a value for it, places of Arrays name no usage, and the rest is 0. `Memory` is reported only where there is the
 /// report, and where `onto` can be written onto.
 pub fn write(
     alloc: Global,

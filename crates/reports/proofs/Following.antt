@@ -4,7 +4,7 @@ use Rattle.std.proofs.Math.ListN.{set}
 use Rattle.std.proofs.Math.Seq.{set-append_seam}
 use Rattle.std.proofs.lemmas.Bool.{cases_eq, cases_Bool}
 use Rattle.std.proofs.lemmas.List.{take-append-le, take_all}
-use Rattle.reports.specs.ties.Next.{IsNext, NonePasses}
+use Rattle.reports.specs.representation.Next.{IsNext, NonePasses}
 use Rattle.reports.specs.Wanted.{members, listed, places_of, words_of, consumer_listed, consumer_bytes}
 use Rattle.reports.proofs.Members.{length-members-mono, le_test, gt_test}
 

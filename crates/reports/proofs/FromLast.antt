@@ -4,7 +4,7 @@ use Rattle.std.proofs.lemmas.Bool.{cases_lt}
 use Rattle.std.proofs.lemmas.Bool.Decides.{nat_tests}
 use Rattle.circular_buffer.specs.Buffer.{keep_last}
 use Rattle.circular_buffer.proofs.Places.{slice_get-append_left, slice_get-append_right, slice_get-drop}
-use Rattle.reports.specs.ties.Plain.{from_last}
+use Rattle.reports.specs.representation.Plain.{from_last}
 
 lt_test : (a b : ℕ) → a < b → nat_lt a b ≡ true
 lt_test a b l = grind (arith, nat_tests)

@@ -15,9 +15,9 @@ use Rattle.reports.specs.declared.Input.{Input}
 use Rattle.reports.specs.declared.Input.TheVariants.{Boot, One, Two}
 use Rattle.reports.specs.Poll.{size_of, is_report}
 use Rattle.reports.specs.Wanted.{byte_of, bytes_of, bitmap_bit, bitmap_bytes, boot_bytes, consumer_bytes}
-use Rattle.reports.specs.ties.Words.{byte_at, first_bytes, EndsAt, Packs}
+use Rattle.reports.specs.representation.Words.{byte_at, first_bytes, EndsAt, Packs}
 use Rattle.reports.proofs.Bits.{byte_of-bits}
-use Rattle.reports.proofs.LayoutLaws.{length-bytes_of, bytes_of-at}
+use Rattle.reports.proofs.LayoutTheorems.{length-bytes_of, bytes_of-at}
 use Rattle.reports.proofs.Empty.{boot_bytes_none, bitmap_bytes_none, consumer_bytes_none}
 use Rattle.reports.proofs.Sizes.{one-length}
 

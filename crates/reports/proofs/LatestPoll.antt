@@ -3,7 +3,7 @@ use Rattle.std.proofs.Common.{◌≡◌, ℕ, ◌+◌, suc, true, false, Some, N
 use Rattle.std.proofs.lemmas.List.Sums.{sum_by-cons}
 use Rattle.reports.specs.declared.Input.{Input}
 use Rattle.reports.specs.Calls.{PollerCall, ticked, polled, idle_set, forgot, was_reset, forgets, is_tick}
-use Rattle.reports.specs.LookBack.{NoneSent, Last, scans}
+use Rattle.reports.specs.History.{NoneSent, Last, scans}
 use Rattle.reports.specs.Poll.{sent_by, last_bytes, age}
 use Rattle.reports.specs.Wanted.{wanted}
 

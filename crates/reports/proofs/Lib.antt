@@ -1,7 +1,7 @@
 pub mod Members
 pub mod Bits
 pub mod Empty
-pub mod LayoutLaws
+pub mod LayoutTheorems
 pub mod Rising
 pub mod Waiting
 pub mod Rule

@@ -5,9 +5,9 @@ use Rattle.reports.specs.declared.Protocol.{Protocol}
 use Rattle.reports.specs.declared.Protocol.TheVariants as protocol
 use Rattle.reports.specs.declared.Input.{Input}
 use Rattle.reports.specs.Calls.{PollerCall, polled}
-use Rattle.reports.specs.ties.Kept.{Kept}
+use Rattle.reports.specs.representation.Kept.{Kept}
 use Rattle.reports.specs.Queue.{queue}
-use Rattle.reports.specs.ties.Stands.{RuleStandsFor, AreMade, IsMade, IsMadeFor, SameMade}
+use Rattle.reports.specs.representation.Relation.{RuleRefines, AreMade, IsMade, IsMadeFor, SameMade}
 use Rattle.reports.specs.Wanted.{wanted}
 use Rattle.reports.proofs.Waiting.{queue-poll}
 
@@ -47,7 +47,7 @@ pub record SameSent (old new : Kept) : Type 0 where
   pub idle_one : new.idle_one ≡ old.idle_one
   pub idle_two : new.idle_two ≡ old.idle_two
 
-pub rule-same : (past : List PollerCall) (old new : Kept) → SameSent old new → RuleStandsFor past old → RuleStandsFor past new
+pub rule-same : (past : List PollerCall) (old new : Kept) → SameSent old new → RuleRefines past old → RuleRefines past new
 rule-same past old new s r = record {
   boot = record { bytes = s.boot_bytes ∙ r.boot.bytes; age = s.boot_age ∙ r.boot.age };
   one = record { bytes = s.one_bytes ∙ r.one.bytes; age = s.one_age ∙ r.one.age };

@@ -7,7 +7,7 @@ use Rattle.std.proofs.lemmas.Bool.{cases_lt, cases_Bool}
 use Rattle.std.proofs.lemmas.List.Elements.{Contains-append_cases}
 use Rattle.reports.specs.Wanted.{members, listed}
 use Rattle.reports.specs.Layouts.{AreListed}
-use Rattle.reports.proofs.LayoutLaws.{members-length, members-at}
+use Rattle.reports.proofs.LayoutTheorems.{members-length, members-at}
 
 one_in : (test : ℕ → Bool) (first n : ℕ) → test (first + n) ≡ true → members test first (suc n) ≡ members test first n ++ (first + n) ∷ []
 unfolding members

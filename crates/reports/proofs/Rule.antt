@@ -9,8 +9,8 @@ use Rattle.reports.specs.declared.Input.TheVariants.{Boot, One, Two}
 use Rattle.reports.specs.Calls.{PollerCall, ticked, polled, idle_set, forgot, was_reset}
 use Rattle.reports.specs.Poll.{is_report, is_for, last_bytes, age, sent_last, idle_value, rule_answer, poll_answer}
 use Rattle.reports.specs.Queue.{queue}
-use Rattle.reports.specs.ties.Kept.{Kept, SentValue}
-use Rattle.reports.specs.ties.Stands.{SentStandsFor, RuleStandsFor, NothingSent, StandsFor}
+use Rattle.reports.specs.representation.Kept.{Kept, SentValue}
+use Rattle.reports.specs.representation.Relation.{SentRefines, RuleRefines, NothingSent, Refines}
 use Rattle.reports.specs.Wanted.{wanted}
 use Rattle.reports.proofs.Waiting.{queue-none, queue-forgot, queue-reset}
 
@@ -20,49 +20,49 @@ abbrev pub Older : SentValue → SentValue → Type 0
 Older old new = (new.bytes ≡ old.bytes) × ((scans : ℕ) → old.age ≡ min 65535 scans → new.age ≡ min 65535 (scans + 1))
 
 pub sent-tick : (report : Input) (past : List PollerCall) (protocol : Protocol) (before now : Input → List ℕ) (old new : SentValue)
-    → SentStandsFor report past old → Older old new → SentStandsFor report (ticked protocol before now ∷ past) new
+    → SentRefines report past old → Older old new → SentRefines report (ticked protocol before now ∷ past) new
 unfolding last_bytes age
 sent-tick report past protocol before now old new s (b, a) = record { bytes = b ∙ s.bytes; age = a (age report past) s.age }
 
 pub sent-none : (report : Input) (past : List PollerCall) (protocol : Protocol) (sent : SentValue)
-    → SentStandsFor report past sent → SentStandsFor report (polled protocol None ∷ past) sent
+    → SentRefines report past sent → SentRefines report (polled protocol None ∷ past) sent
 unfolding last_bytes age
 sent-none report past protocol sent s = let z : age report past + 0 ≡ age report past = omega arith in record { bytes = s.bytes; age = rw z s.age }
 
 pub sent-other : (report : Input) (past : List PollerCall) (protocol : Protocol) (bytes : List ℕ) (sent : SentValue) → is_report report bytes ≡ false
-    → SentStandsFor report past sent → SentStandsFor report (polled protocol (Some bytes) ∷ past) sent
+    → SentRefines report past sent → SentRefines report (polled protocol (Some bytes) ∷ past) sent
 unfolding last_bytes age
 sent-other report past protocol bytes sent e s =
     let z : age report past + 0 ≡ age report past = omega arith in record { bytes = rw e s.bytes; age = rw (e, z) s.age }
 
 pub sent-this : (report : Input) (past : List PollerCall) (protocol : Protocol) (bytes : List ℕ) (sent : SentValue) → is_report report bytes ≡ true
-    → sent.bytes ≡ bytes → sent.age ≡ 0 → SentStandsFor report (polled protocol (Some bytes) ∷ past) sent
+    → sent.bytes ≡ bytes → sent.age ≡ 0 → SentRefines report (polled protocol (Some bytes) ∷ past) sent
 unfolding last_bytes age
 sent-this report past protocol bytes sent e b a = record { bytes = rw e b; age = rw e a }
 
 pub sent-idle : (report : Input) (past : List PollerCall) (id : IdleId) (duration : ℕ) (sent : SentValue)
-    → SentStandsFor report past sent → SentStandsFor report (idle_set id duration ∷ past) sent
+    → SentRefines report past sent → SentRefines report (idle_set id duration ∷ past) sent
 unfolding last_bytes age
 sent-idle report past id duration sent s = let z : age report past + 0 ≡ age report past = omega arith in record { bytes = s.bytes; age = rw z s.age }
 
-pub sent-nothing : (report : Input) (sent : SentValue) → sent.bytes ≡ wanted (λ _. false) (λ _. false) report → sent.age ≡ 0 → SentStandsFor report [] sent
+pub sent-nothing : (report : Input) (sent : SentValue) → sent.bytes ≡ wanted (λ _. false) (λ _. false) report → sent.age ≡ 0 → SentRefines report [] sent
 unfolding last_bytes age
 sent-nothing report sent b a = record { bytes = b; age = a }
 
-pub sent-forgot : (report : Input) (past : List PollerCall) (sent : SentValue) → SentStandsFor report [] sent → SentStandsFor report (forgot ∷ past) sent
+pub sent-forgot : (report : Input) (past : List PollerCall) (sent : SentValue) → SentRefines report [] sent → SentRefines report (forgot ∷ past) sent
 unfolding last_bytes age
 sent-forgot report past sent s = record { bytes = s.bytes; age = s.age }
 
-pub sent-reset : (report : Input) (past : List PollerCall) (sent : SentValue) → SentStandsFor report [] sent → SentStandsFor report (was_reset ∷ past) sent
+pub sent-reset : (report : Input) (past : List PollerCall) (sent : SentValue) → SentRefines report [] sent → SentRefines report (was_reset ∷ past) sent
 unfolding last_bytes age
 sent-reset report past sent s = record { bytes = s.bytes; age = s.age }
 
 -- ---- the poll rule
 
-pub rule-tick : (past : List PollerCall) (protocol : Protocol) (before now : Input → List ℕ) (old new : Kept) → RuleStandsFor past old
+pub rule-tick : (past : List PollerCall) (protocol : Protocol) (before now : Input → List ℕ) (old new : Kept) → RuleRefines past old
     → Older old.boot new.boot → Older old.one new.one → Older old.two new.two
     → new.sent_last ≡ old.sent_last → new.idle_one ≡ old.idle_one → new.idle_two ≡ old.idle_two
-    → RuleStandsFor (ticked protocol before now ∷ past) new
+    → RuleRefines (ticked protocol before now ∷ past) new
 unfolding sent_last idle_value
 rule-tick past protocol before now old new r boot one two last i1 i2 = record {
   boot = sent-tick Boot past protocol before now old.boot new.boot r.boot boot;
@@ -74,7 +74,7 @@ rule-tick past protocol before now old new r boot one two last i1 i2 = record {
   idle_two = i2 ∙ r.idle_two;
 }
 
-pub rule-none : (past : List PollerCall) (protocol : Protocol) (kept : Kept) → RuleStandsFor past kept → RuleStandsFor (polled protocol None ∷ past) kept
+pub rule-none : (past : List PollerCall) (protocol : Protocol) (kept : Kept) → RuleRefines past kept → RuleRefines (polled protocol None ∷ past) kept
 unfolding sent_last idle_value
 rule-none past protocol kept r = record {
   boot = sent-none Boot past protocol kept.boot r.boot;
@@ -96,7 +96,7 @@ abbrev with_two : Kept → SentValue → Kept
 with_two kept sent = record { boot = kept.boot; one = kept.one; two = sent; sent_last = Some Two; queue = kept.queue; idle_one = kept.idle_one; idle_two = kept.idle_two; made_for = kept.made_for }
 
 pub rule-boot : (past : List PollerCall) (protocol : Protocol) (bytes : List ℕ) (kept : Kept) (sent : SentValue) → length bytes ≡ 8 → sent.bytes ≡ bytes → sent.age ≡ 0
-    → RuleStandsFor past kept → RuleStandsFor (polled protocol (Some bytes) ∷ past) (with_boot kept sent)
+    → RuleRefines past kept → RuleRefines (polled protocol (Some bytes) ∷ past) (with_boot kept sent)
 unfolding sent_last idle_value
 rule-boot past protocol bytes kept sent l b a r =
     let yes : is_report Boot bytes ≡ true = rw l refl in
@@ -113,7 +113,7 @@ rule-boot past protocol bytes kept sent l b a r =
     }
 
 pub rule-one : (past : List PollerCall) (protocol : Protocol) (bytes : List ℕ) (kept : Kept) (sent : SentValue) → length bytes ≡ 23 → sent.bytes ≡ bytes → sent.age ≡ 0
-    → RuleStandsFor past kept → RuleStandsFor (polled protocol (Some bytes) ∷ past) (with_one kept sent)
+    → RuleRefines past kept → RuleRefines (polled protocol (Some bytes) ∷ past) (with_one kept sent)
 unfolding sent_last idle_value
 rule-one past protocol bytes kept sent l b a r =
     let boot : is_report Boot bytes ≡ false = rw l refl in
@@ -130,7 +130,7 @@ rule-one past protocol bytes kept sent l b a r =
     }
 
 pub rule-two : (past : List PollerCall) (protocol : Protocol) (bytes : List ℕ) (kept : Kept) (sent : SentValue) → length bytes ≡ 9 → sent.bytes ≡ bytes → sent.age ≡ 0
-    → RuleStandsFor past kept → RuleStandsFor (polled protocol (Some bytes) ∷ past) (with_two kept sent)
+    → RuleRefines past kept → RuleRefines (polled protocol (Some bytes) ∷ past) (with_two kept sent)
 unfolding sent_last idle_value
 rule-two past protocol bytes kept sent l b a r =
     let boot : is_report Boot bytes ≡ false = rw l refl in
@@ -148,7 +148,7 @@ rule-two past protocol bytes kept sent l b a r =
 
 -- bytes that are no report
 pub rule-other : (past : List PollerCall) (protocol : Protocol) (bytes : List ℕ) (kept : Kept) → length bytes ≢ 8 → length bytes ≢ 23 → length bytes ≢ 9
-    → RuleStandsFor past kept → RuleStandsFor (polled protocol (Some bytes) ∷ past) kept
+    → RuleRefines past kept → RuleRefines (polled protocol (Some bytes) ∷ past) kept
 unfolding sent_last idle_value
 rule-other past protocol bytes kept n8 n23 n9 r =
     let boot : is_report Boot bytes ≡ false = ne_eqb (length bytes) 8 n8 in
@@ -174,7 +174,7 @@ same_idle id.Two = refl
 
 pub rule-idle : (past : List PollerCall) (which : IdleId) (duration i1 i2 : ℕ) (kept : Kept)
     → i1 ≡ (if is_for which One then duration else kept.idle_one) → i2 ≡ (if is_for which Two then duration else kept.idle_two)
-    → RuleStandsFor past kept → RuleStandsFor (idle_set which duration ∷ past) (with_idle kept i1 i2)
+    → RuleRefines past kept → RuleRefines (idle_set which duration ∷ past) (with_idle kept i1 i2)
 unfolding sent_last idle_value
 rule-idle past which duration i1 i2 kept e1 e2 r = record {
   boot = sent-idle Boot past which duration kept.boot r.boot;
@@ -188,17 +188,17 @@ rule-idle past which duration i1 i2 kept e1 e2 r = record {
 
 -- ---- nothing sent
 
-pub fresh-stands : (kept : Kept) → NothingSent kept → kept.idle_one ≡ 125 → kept.idle_two ≡ 0 → StandsFor [] kept
+pub fresh-refines : (kept : Kept) → NothingSent kept → kept.idle_one ≡ 125 → kept.idle_two ≡ 0 → Refines [] kept
 unfolding sent_last idle_value
-fresh-stands kept n i1 i2 = record {
+fresh-refines kept n i1 i2 = record {
   rule = record { boot = n.boot; one = n.one; two = n.two; sent_last = n.sent_last; idle_boot = i1; idle_one = i1; idle_two = i2 };
   queue = n.queue ∙ sym queue-none;
 }
 
-pub forgot-stands : (past : List PollerCall) (old new : Kept) → NothingSent new → new.idle_one ≡ old.idle_one → new.idle_two ≡ old.idle_two
-    → StandsFor past old → StandsFor (forgot ∷ past) new
+pub forgot-refines : (past : List PollerCall) (old new : Kept) → NothingSent new → new.idle_one ≡ old.idle_one → new.idle_two ≡ old.idle_two
+    → Refines past old → Refines (forgot ∷ past) new
 unfolding sent_last idle_value
-forgot-stands past old new n i1 i2 s = record {
+forgot-refines past old new n i1 i2 s = record {
   rule = record {
     boot = sent-forgot Boot past new.boot n.boot;
     one = sent-forgot One past new.one n.one;
@@ -211,9 +211,9 @@ forgot-stands past old new n i1 i2 s = record {
   queue = n.queue ∙ sym (queue-forgot past);
 }
 
-pub reset-stands : (past : List PollerCall) (kept : Kept) → StandsFor [] kept → StandsFor (was_reset ∷ past) kept
+pub reset-refines : (past : List PollerCall) (kept : Kept) → Refines [] kept → Refines (was_reset ∷ past) kept
 unfolding sent_last idle_value
-reset-stands past kept s = record {
+reset-refines past kept s = record {
   rule = record {
     boot = sent-reset Boot past kept.boot s.rule.boot;
     one = sent-reset One past kept.one s.rule.one;
@@ -231,8 +231,8 @@ nothing-idle kept one two n = record { boot = n.boot; one = n.one; two = n.two; 
 
 -- ---- the queue
 
-pub rule-queue : (past : List PollerCall) (kept : Kept) (queue : List (List ℕ)) → RuleStandsFor past kept
-    → RuleStandsFor past record { boot = kept.boot; one = kept.one; two = kept.two; sent_last = kept.sent_last; queue = queue; idle_one = kept.idle_one; idle_two = kept.idle_two; made_for = kept.made_for }
+pub rule-queue : (past : List PollerCall) (kept : Kept) (queue : List (List ℕ)) → RuleRefines past kept
+    → RuleRefines past record { boot = kept.boot; one = kept.one; two = kept.two; sent_last = kept.sent_last; queue = queue; idle_one = kept.idle_one; idle_two = kept.idle_two; made_for = kept.made_for }
 rule-queue past kept queue r = record {
   boot = r.boot;
   one = r.one;

@@ -1,4 +1,4 @@
--- Believed where this crate is called: what an idle request is answered from.
+-- Trusted where this crate is called: what an idle request is answered from.
 use Rattle.reports.specs.declared.IdleId.{IdleId}
 use Rattle.reports.specs.declared.IdleId.TheVariants as id
 use Rattle.reports.specs.declared.Input.{Input}

@@ -1,4 +1,4 @@
--- Believed: the calls of a poller.
+-- Trusted: the calls of a poller.
 use Rattle.shapes.specs.Shapes.{Bytes}
 use Rattle.std.specs.Prelude.{ℕ, Bool, true, false, Option}
 use Rattle.reports.specs.declared.Protocol.{Protocol}

@@ -1,4 +1,4 @@
--- Believed: the layouts of the reports, said of each bit and place.
+-- Trusted: the layouts of the reports, said of each bit and place.
 use Rattle.shapes.specs.Shapes.{Bytes, UsageList}
 use Rattle.std.specs.Prelude.{◌≡◌, ℕ, ◌+◌, ◌-◌, ◌*◌, ◌/◌, ◌%◌, ◌<◌, ◌≤◌, ◌↔◌, Bool, true, length, Contains, slice_index, if◌then◌else◌}
 use Rattle.std.specs.Int.{bit_at}

@@ -4,6 +4,6 @@ pub mod Calls
 pub mod Queue
 pub mod Poll
 pub mod Answers
-pub mod LookBack
+pub mod History
 pub mod Plain
-pub mod ties
+pub mod representation

@@ -1,4 +1,4 @@
--- Believed where this crate is called: what the calls and bytes of the plain program stand for.
+-- Trusted where this crate is called: what the calls and bytes of the plain program stand for.
 use Rattle.shapes.specs.Shapes.{Bytes}
 use Rattle.std.specs.Option.{option_map}
 use Rattle.reports.specs.declared.Input.{Input}

@@ -1,4 +1,4 @@
--- Believed: what a poll answers, by a look back over the poller's calls, newest first.
+-- Trusted: what a poll answers, as a function of the poller's calls, newest first.
 use Rattle.shapes.specs.Shapes.{Bytes}
 use Rattle.std.specs.Prelude.{ℕ, ◌+◌, ◌*◌, ◌==◌, Bool, true, false, ◌&&◌, ◌||◌, not, List, [], ◌∷◌, length, Option, Some, None, is_some, unwrap_or, slice_get, if◌then◌else◌, nat_le}
 use Rattle.std.specs.Option.{option_map, option_or}

@@ -1,4 +1,4 @@
--- Believed: the reports that wait to be sent, by a look back over the poller's calls, newest first.
+-- Trusted: the reports that wait to be sent, as a function of the poller's calls, newest first.
 use Rattle.shapes.specs.Shapes.{Bytes}
 use Rattle.std.specs.Prelude.{ℕ, ◌+◌, ◌-◌, min, if◌then◌else◌, List, [], ◌∷◌, ◌++◌, length, flat_map}
 use Rattle.std.specs.Str.{bytes_eq}

@@ -1,4 +1,4 @@
--- Believed: the bytes of each report for a set of usages. A set is a test: `keys u` says that usage u of page 07h is in it,
+-- Trusted: the bytes of each report for a set of usages. A set is a test: `keys u` says that usage u of page 07h is in it,
 -- `consumer u` that usage u of page 0Ch is.
 use Rattle.shapes.specs.Shapes.{Bytes, UsageList}
 use Rattle.std.specs.Prelude.{ℕ, zero, suc, ◌+◌, ◌-◌, ◌*◌, ◌/◌, ◌%◌, ◌^◌, Bool, ◌&&◌, [], ◌∷◌, ◌++◌, length, take, replicate, if◌then◌else◌, nat_le, nat_lt}

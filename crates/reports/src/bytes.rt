@@ -2,7 +2,7 @@
 
 ghost use Rattle.std.specs.Prelude.{◌≡◌, ◌+◌, ◌-◌, ◌<◌, ◌==◌, ℕ, if◌then◌else◌, nat_lt};
 ghost use Rattle.std.specs.Int.{bit_at};
-ghost use Rattle.reports.specs.ties.Next.{FindsNext};
+ghost use Rattle.reports.specs.representation.Next.{FindsNext};
 ghost use Rattle.reports.specs.Wanted.{boot_bytes, bitmap_bytes, consumer_bytes, places_of, listed};
 ghost use Rattle.layers.specs.Usages.{has_key, has_consumer};
 

@@ -4,7 +4,7 @@ ghost use Rattle.std.specs.Prelude.{◌≡◌, ◌+◌, ◌*◌, ◌/◌, ◌%�
 ghost use Rattle.std.specs.Str.{bytes_eq};
 ghost use Rattle.layers.specs.Usages.{has_key, has_consumer};
 ghost use Rattle.reports.specs.Poll.{is_report};
-ghost use Rattle.reports.specs.ties.Words.{Packs};
+ghost use Rattle.reports.specs.representation.Words.{Packs};
 ghost use Rattle.reports.specs.Wanted.{wanted, boot_bytes, bitmap_bytes, consumer_bytes};
 
 use crate::bytes::{boot, consumer};
@@ -23,7 +23,7 @@ pub struct InputReport {
 impl Model for InputReport {
     ghost use Rattle.std.specs.Prelude.{ℕ, List};
     ghost use Rattle.reports.specs.Poll.{size_of};
-    ghost use Rattle.reports.specs.ties.Words.{first_bytes, EndsAt};
+    ghost use Rattle.reports.specs.representation.Words.{first_bytes, EndsAt};
 
     ghost Value = { List ℕ };
 

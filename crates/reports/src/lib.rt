@@ -3,7 +3,7 @@
 //! released between two polls. `Poller::new` takes the queue's memory, and nothing else takes any.
 //!
 //! A `Poller` keeps what was made and what was sent last of each report, how many scans ago it was
-//! sent, the reports that wait, and the idle values. The promise is that each poll is answered as a look back over the
+//! sent, the reports that wait, and the idle values. The guarantee is that each poll is answered as a history function over the
 //! poller's calls says. `key_reports` calls it at each scan and poll.
 #![tactic(auto)]
 
@@ -12,11 +12,11 @@ use arrayvec::ArrayVec;
 pub mod bytes;
 mod idle;
 pub mod input_report;
-pub mod laws;
 pub mod plain;
 pub mod poller;
 mod queue;
 mod sent;
+pub mod theorems;
 
 pub use bytes::{bitmap, boot, consumer};
 pub use input_report::InputReport;

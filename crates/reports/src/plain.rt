@@ -1,4 +1,4 @@
-//! The answer of a poll as its definition says it: a plain, slow program that looks back over all calls
+//! The answer of a poll as its definition says it: a reference model that looks back over all calls
 //! of a poller, for the poller to be compared with. It shares no code with the poller. Tests call it,
 //! and no firmware.
 
@@ -10,7 +10,7 @@ ghost use Rattle.reports.specs.Calls as calls;
 ghost use Rattle.reports.specs.Queue as queue;
 ghost use Rattle.reports.specs.Poll as poll;
 ghost use Rattle.reports.specs.Plain.{call_of, bytes_in};
-ghost use Rattle.reports.specs.ties.Plain.{from_last};
+ghost use Rattle.reports.specs.representation.Plain.{from_last};
 
 use crate::{IdleId, Input, Protocol, Report};
 

@@ -40,7 +40,7 @@ pub struct Poller {
 }
 
 impl Model for Poller {
-    ghost use Rattle.reports.specs.ties.Kept.{Kept};
+    ghost use Rattle.reports.specs.representation.Kept.{Kept};
 
     ghost Value = { Kept };
 
@@ -57,13 +57,13 @@ impl Model for Poller {
 }
 
 impl Poller {
-    ghost use Rattle.reports.specs.ties.Stands.{StandsFor, RuleStandsFor, NothingSent, IsMade, IsMadeFor, SameMade};
+    ghost use Rattle.reports.specs.representation.Relation.{Refines, RuleRefines, NothingSent, IsMade, IsMadeFor, SameMade};
     ghost use Rattle.reports.specs.Answers.{idle_input};
 
     /// Nothing sent and nothing waiting, and the idle values 125 (500 ms) for ID 1 and 0 (no repeats)
     /// for ID 2. Takes the memory of the queue, and is refused where there is none.
     pub fn new(alloc: Global) -> Result<Poller, AllocError>
-        ensures stands { IfOk result (λ poller. StandsFor [] poller) }
+        ensures refines { IfOk result (λ poller. Refines [] poller) }
         ensures made { IfOk result (λ poller. IsMade (wanted (λ _. false) (λ _. false)) poller) }
     {
         let queue = Queue::new(alloc)?;
@@ -83,8 +83,8 @@ impl Poller {
     /// Each report of the protocol whose bytes that changes waits from now on, ID 1 before ID 2. Of
     /// more than eight that wait the oldest are dropped.
     pub fn tick(&mut self, before: &Usages, now: &Usages, protocol: Protocol)
-        ensures { (past : List PollerCall) → StandsFor past self.old
-            → StandsFor (ticked protocol (wanted (has_key before.now) (has_consumer before.now))
+        ensures { (past : List PollerCall) → Refines past self.old
+            → Refines (ticked protocol (wanted (has_key before.now) (has_consumer before.now))
             (wanted (has_key now.now) (has_consumer now.now)) ∷ past) self.new }
     {
         self.make(before, protocol);
@@ -93,8 +93,8 @@ impl Poller {
 
     /// Takes the passing of one scan, one millisecond, which changed no usage.
     pub fn pass(&mut self)
-        ensures stands { (past : List PollerCall) (protocol : Protocol) (bytes : Input → List ℕ)
-            → StandsFor past self.old → StandsFor (ticked protocol bytes bytes ∷ past) self.new }
+        ensures refines { (past : List PollerCall) (protocol : Protocol) (bytes : Input → List ℕ)
+            → Refines past self.old → Refines (ticked protocol bytes bytes ∷ past) self.new }
         ensures made { (bytes : Input → List ℕ) → IsMade bytes self.old → IsMade bytes self.new }
     {
         self.grow_older();
@@ -104,9 +104,9 @@ impl Poller {
     /// bytes were made for. Each report of the protocol whose bytes that changes waits from now on, ID 1
     /// before ID 2. Of more than eight that wait the oldest are dropped.
     pub fn tick_to(&mut self, now: &Usages, protocol: Protocol)
-        ensures stands { (past : List PollerCall) (before : Input → List ℕ) → IsMadeFor protocol before self.old
-            → StandsFor past self.old
-            → StandsFor (ticked protocol before (wanted (has_key now.now) (has_consumer now.now)) ∷ past) self.new }
+        ensures refines { (past : List PollerCall) (before : Input → List ℕ) → IsMadeFor protocol before self.old
+            → Refines past self.old
+            → Refines (ticked protocol before (wanted (has_key now.now) (has_consumer now.now)) ∷ past) self.new }
         ensures made { (before : Input → List ℕ) → IsMadeFor protocol before self.old
             → IsMade (wanted (has_key now.now) (has_consumer now.now)) self.new }
     {
@@ -116,7 +116,7 @@ impl Poller {
 
     fn grow_older(&mut self)
         ensures rule { (past : List PollerCall) (protocol : Protocol) (before now : Input → List ℕ)
-            → RuleStandsFor past self.old → RuleStandsFor (ticked protocol before now ∷ past) self.new }
+            → RuleRefines past self.old → RuleRefines (ticked protocol before now ∷ past) self.new }
         ensures queue { self.new.queue ≡ self.old.queue }
         ensures made { SameMade self.old self.new }
     {
@@ -128,7 +128,7 @@ impl Poller {
     /// Makes the bytes of the protocol's reports for these usages, and lets those wait that are not as
     /// they were made before.
     fn push_changes(&mut self, now: &Usages, protocol: Protocol)
-        ensures rule { (past : List PollerCall) → RuleStandsFor past self.old → RuleStandsFor past self.new }
+        ensures rule { (past : List PollerCall) → RuleRefines past self.old → RuleRefines past self.new }
         ensures queue { (past : List PollerCall) (before : Input → List ℕ) → IsMadeFor protocol before self.old
             → self.old.queue ≡ queue past
             → self.new.queue ≡ queue (ticked protocol before (wanted (has_key now.now) (has_consumer now.now)) ∷ past) }
@@ -173,7 +173,7 @@ impl Poller {
 
     /// Makes the bytes of the protocol's reports for these usages.
     pub fn make(&mut self, usages: &Usages, protocol: Protocol)
-        ensures stands { (past : List PollerCall) → StandsFor past self.old → StandsFor past self.new }
+        ensures refines { (past : List PollerCall) → Refines past self.old → Refines past self.new }
         ensures made { IsMadeFor protocol (wanted (has_key usages.now) (has_consumer usages.now)) self.new }
     {
         match protocol {
@@ -191,9 +191,9 @@ impl Poller {
     /// as long has passed since it was sent; of two the one that was not sent last; else `None`. What
     /// is answered then counts as sent.
     pub fn poll(&mut self, usages: &Usages, protocol: Protocol) -> Option<Report>
-        ensures stands { (past : List PollerCall) → StandsFor past self.old
-            → StandsFor (polled protocol (option_map (λ r. r.items) result) ∷ past) self.new }
-        ensures answer { (past : List PollerCall) → StandsFor past self.old
+        ensures refines { (past : List PollerCall) → Refines past self.old
+            → Refines (polled protocol (option_map (λ r. r.items) result) ∷ past) self.new }
+        ensures answer { (past : List PollerCall) → Refines past self.old
             → option_map (λ r. r.items) result
             ≡ poll_answer protocol (wanted (has_key usages.now) (has_consumer usages.now)) past }
     {
@@ -203,10 +203,10 @@ impl Poller {
 
     /// `poll` for the usages that the bytes were made for: it looks at no bytes where nothing is due.
     pub fn poll_made(&mut self, protocol: Protocol) -> Option<Report>
-        ensures stands { (past : List PollerCall) → StandsFor past self.old
-            → StandsFor (polled protocol (option_map (λ r. r.items) result) ∷ past) self.new }
+        ensures refines { (past : List PollerCall) → Refines past self.old
+            → Refines (polled protocol (option_map (λ r. r.items) result) ∷ past) self.new }
         ensures answer { (past : List PollerCall) (bytes : Input → List ℕ) → IsMadeFor protocol bytes self.old
-            → StandsFor past self.old → option_map (λ r. r.items) result ≡ poll_answer protocol bytes past }
+            → Refines past self.old → option_map (λ r. r.items) result ≡ poll_answer protocol bytes past }
         ensures made { SameMade self.old self.new }
     {
         if self.queue.is_empty() {
@@ -218,8 +218,8 @@ impl Poller {
 
     /// Sends the report that has waited longest, if one waits.
     fn send_front(&mut self) -> Option<Report>
-        ensures rule { (past : List PollerCall) (protocol : Protocol) → RuleStandsFor past self.old
-            → RuleStandsFor (polled protocol (option_map (λ r. r.items) result) ∷ past) self.new }
+        ensures rule { (past : List PollerCall) (protocol : Protocol) → RuleRefines past self.old
+            → RuleRefines (polled protocol (option_map (λ r. r.items) result) ∷ past) self.new }
         ensures front { option_map (λ r. r.items) result ≡ slice_get self.old.queue 0 }
         ensures queue { self.new.queue ≡ drop 1 self.old.queue }
         ensures made { SameMade self.old self.new }
@@ -236,10 +236,10 @@ impl Poller {
 
     /// Sends what the poll rule sends where no report waits.
     fn send_due(&mut self, protocol: Protocol) -> Option<Report>
-        ensures rule { (past : List PollerCall) → RuleStandsFor past self.old
-            → RuleStandsFor (polled protocol (option_map (λ r. r.items) result) ∷ past) self.new }
+        ensures rule { (past : List PollerCall) → RuleRefines past self.old
+            → RuleRefines (polled protocol (option_map (λ r. r.items) result) ∷ past) self.new }
         ensures answer { (past : List PollerCall) (bytes : Input → List ℕ) → IsMadeFor protocol bytes self.old
-            → RuleStandsFor past self.old → option_map (λ r. r.items) result ≡ rule_answer protocol bytes past }
+            → RuleRefines past self.old → option_map (λ r. r.items) result ≡ rule_answer protocol bytes past }
         ensures queue { self.new.queue ≡ self.old.queue }
         ensures made { SameMade self.old self.new }
     {
@@ -256,7 +256,7 @@ impl Poller {
     /// What the poll rule sends where no report waits.
     fn due(&self, protocol: Protocol) -> Option<InputReport>
         ensures { (past : List PollerCall) (bytes : Input → List ℕ) → IsMadeFor protocol bytes self.now
-            → RuleStandsFor past self.now → result ≡ rule_answer protocol bytes past }
+            → RuleRefines past self.now → result ≡ rule_answer protocol bytes past }
     {
         match protocol {
             Protocol::Boot => self.due_boot(),
@@ -266,7 +266,7 @@ impl Poller {
 
     fn due_boot(&self) -> Option<InputReport>
         ensures { (past : List PollerCall) (bytes : Input → List ℕ) → bytes Input.Boot ≡ self.now.boot.made
-            → RuleStandsFor past self.now
+            → RuleRefines past self.now
             → result ≡ rule_answer Protocol.Boot bytes past }
     {
         if self.boot_is_due() {
@@ -278,7 +278,7 @@ impl Poller {
 
     fn boot_is_due(&self) -> bool
         ensures { (past : List PollerCall) (bytes : Input → List ℕ) → bytes Input.Boot ≡ self.now.boot.made
-            → RuleStandsFor past self.now
+            → RuleRefines past self.now
             → result ≡ (poll.is_changed bytes past Input.Boot || poll.is_elapsed past Input.Boot) }
     {
         self.boot.is_changed() || self.boot.is_elapsed(&self.idle_one)
@@ -286,7 +286,7 @@ impl Poller {
 
     fn due_report(&self) -> Option<InputReport>
         ensures { (past : List PollerCall) (bytes : Input → List ℕ) → bytes Input.One ≡ self.now.one.made
-            → bytes Input.Two ≡ self.now.two.made → RuleStandsFor past self.now
+            → bytes Input.Two ≡ self.now.two.made → RuleRefines past self.now
             → result ≡ rule_answer Protocol.Report bytes past }
     {
         match self.chosen(self.one.is_changed(), self.two.is_changed()) {
@@ -301,7 +301,7 @@ impl Poller {
     fn chosen(&self, one_changed: bool, two_changed: bool) -> Option<Input>
         ensures { (past : List PollerCall) (bytes : Input → List ℕ)
             → poll.is_changed bytes past Input.One ≡ one_changed
-            → poll.is_changed bytes past Input.Two ≡ two_changed → RuleStandsFor past self.now
+            → poll.is_changed bytes past Input.Two ≡ two_changed → RuleRefines past self.now
             → result ≡ poll.chosen Protocol.Report bytes past }
     {
         if one_changed || two_changed {
@@ -317,8 +317,8 @@ impl Poller {
 
     /// Counts a report as sent.
     fn count_as_sent(&mut self, report: InputReport)
-        ensures rule { (past : List PollerCall) (protocol : Protocol) → RuleStandsFor past self.old
-            → RuleStandsFor (polled protocol (Some report) ∷ past) self.new }
+        ensures rule { (past : List PollerCall) (protocol : Protocol) → RuleRefines past self.old
+            → RuleRefines (polled protocol (Some report) ∷ past) self.new }
         ensures queue { self.new.queue ≡ self.old.queue }
         ensures made { SameMade self.old self.new }
     {
@@ -338,8 +338,8 @@ impl Poller {
     /// Sets the idle value of a report, or of all, in units of 4 ms; 0 stands for no repeats (HID 1.11
     /// section 7.2.4). The time that has passed since a report was sent still counts.
     pub fn set_idle(&mut self, id: IdleId, duration: u8)
-        ensures stands { (past : List PollerCall) → StandsFor past self.old
-            → StandsFor (idle_set id duration ∷ past) self.new }
+        ensures refines { (past : List PollerCall) → Refines past self.old
+            → Refines (idle_set id duration ∷ past) self.new }
         ensures made { SameMade self.old self.new }
     {
         match id {
@@ -355,7 +355,7 @@ impl Poller {
     /// The idle value of a report, in units of 4 ms; for all reports that of ID 1 (HID 1.11 section
     /// 7.2.3).
     pub fn idle(&self, id: IdleId) -> u8
-        ensures { (past : List PollerCall) → StandsFor past self.now
+        ensures { (past : List PollerCall) → Refines past self.now
             → result ≡ idle_value (idle_input id) past }
     {
         match id {
@@ -366,8 +366,8 @@ impl Poller {
 
     /// Counts nothing as sent, as at the start, and drops what waits; the idle values stay.
     pub fn forget_sent(&mut self)
-        ensures stands { (past : List PollerCall) → StandsFor past self.old
-            → StandsFor (forgot ∷ past) self.new }
+        ensures refines { (past : List PollerCall) → Refines past self.old
+            → Refines (forgot ∷ past) self.new }
         ensures made { SameMade self.old self.new }
     {
         self.clear();
@@ -376,9 +376,9 @@ impl Poller {
     /// Leaves what `new` gives: nothing counts as sent, nothing waits, and the idle values are those of
     /// the start. Takes no memory.
     pub fn reset(&mut self)
-        ensures stands { (past : List PollerCall) → StandsFor past self.old
-            → StandsFor (was_reset ∷ past) self.new }
-        ensures fresh { StandsFor [] self.new }
+        ensures refines { (past : List PollerCall) → Refines past self.old
+            → Refines (was_reset ∷ past) self.new }
+        ensures fresh { Refines [] self.new }
         ensures made { SameMade self.old self.new }
     {
         self.clear();

@@ -25,7 +25,7 @@ pub(crate) struct Sent {
 impl Model for Sent {
     ghost use Rattle.std.specs.Prelude.{◌≡◌, not};
     ghost use Rattle.std.specs.Str.{bytes_eq};
-    ghost use Rattle.reports.specs.ties.Kept.{SentValue};
+    ghost use Rattle.reports.specs.representation.Kept.{SentValue};
 
     ghost Value = { SentValue };
 

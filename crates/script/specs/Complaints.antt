@@ -1,4 +1,4 @@
--- Believed: what is wrong with a line, by the words that it has.
+-- Trusted: what is wrong with a line, by the words that it has.
 use Rattle.shapes.specs.Shapes.{Bytes}
 use Rattle.std.specs.Prelude.{◌≡◌, ◌≢◌, ℕ, List, length}
 use Rattle.script.specs.Statements.{Kind, IsOfKind, Number, Count, HexBytes, MaskBytes, Takes, spelling}

@@ -1,4 +1,4 @@
--- Believed: the keys that a scan names.
+-- Trusted: the keys that a scan names.
 use Rattle.shapes.specs.Shapes.{Bytes}
 use Rattle.std.specs.Prelude.{◌≡◌, ◌==◌, ℕ, ◌<◌, Bool, List}
 use Rattle.std.specs.List.{All, list_any}

@@ -5,4 +5,4 @@ pub mod Masks
 pub mod Scripts
 pub mod Statements
 pub mod Words
-pub mod ties
+pub mod representation

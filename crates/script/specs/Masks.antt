@@ -1,4 +1,4 @@
--- Believed: the masks of torn operations, as words write them.
+-- Trusted: the masks of torn operations, as words write them.
 use Rattle.shapes.specs.Shapes.{Bytes}
 use Rattle.std.specs.Prelude.{◌≡◌, ℕ, ◌<◌, ◌⊎◌, [], length, codes}
 use Rattle.script.specs.Numbers.{WritesBytes, IsHexOf}

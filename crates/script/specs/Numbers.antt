@@ -1,4 +1,4 @@
--- Believed: what a word of digits writes.
+-- Trusted: what a word of digits writes.
 use Rattle.shapes.specs.Shapes.{Bytes}
 use Rattle.std.specs.Prelude.{◌≡◌, ℕ, ◌*◌, ◌<◌, ◌≤◌, length, Ok}
 use Rattle.std.specs.List.{AllPass}

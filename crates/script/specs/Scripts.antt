@@ -1,4 +1,4 @@
--- Believed: a whole script.
+-- Trusted: a whole script.
 use Rattle.shapes.specs.Shapes.{Bytes}
 use Rattle.std.specs.Prelude.{◌≡◌, ℕ, ◌+◌, ◌==◌, ◌⊎◌, if◌then◌else◌, List, [], ◌∷◌, ◌++◌, length, slice_index}
 use Rattle.script.specs.Statements.{Says, IsFault}

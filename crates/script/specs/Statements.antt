@@ -1,4 +1,4 @@
--- Believed: the lines of a script: what each one says, and which fault it has.
+-- Trusted: the lines of a script: what each one says, and which fault it has.
 use Rattle.shapes.specs.Shapes.{Bytes}
 use Rattle.std.specs.Prelude.{◌≡◌, ◌≢◌, ℕ, ◌<◌, ◌≤◌, ◌⊎◌, List, [], ◌∷◌, length, map, codes, ◌+◌, ◌*◌}
 use Rattle.std.specs.Int.NonZero.{non_zero_u16_get}

@@ -1,4 +1,4 @@
--- Believed: the words of a line.
+-- Trusted: the words of a line.
 use Rattle.shapes.specs.Shapes.{Bytes}
 use Rattle.std.specs.Prelude.{ℕ, ◌==◌, ◌||◌, nat_lt, Bool, List, length, filter}
 use Rattle.std.specs.List.{slice_split}

@@ -3,7 +3,7 @@
 //! [`read_lines`] checks a whole script, and [`what_is_wrong`] says of a line that is refused what is wrong with it. Nothing is run
 //! here.
 //!
-//! Nothing is kept. The promise is that a script is read as just what its lines say, or refused for its first fault.
+//! Nothing is kept. The guarantee is that a script is read as just what its lines say, or refused for its first fault.
 //! `kbsim` calls it.
 #![tactic(auto)]
 

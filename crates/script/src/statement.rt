@@ -2,7 +2,7 @@
 
 ghost use Rattle.std.specs.Prelude.{◌≡◌, ◌≢◌, ◌≤◌, ◌↔◌, ℕ, MatchOption, IfOk, IfErr, IsTrue, []};
 ghost use Rattle.script.specs.Statements.{spelling, Takes, IsFault, Says};
-ghost use Rattle.script.specs.ties.Statements.{Reads};
+ghost use Rattle.script.specs.representation.Statements.{Reads};
 ghost use Rattle.script.specs.Words.{words};
 
 use crate::LineFault;

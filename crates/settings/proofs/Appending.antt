@@ -6,7 +6,7 @@ use Rattle.page_turnover.specs.Value.{LogValue, Task, Rest, Append}
 use Rattle.page_turnover.specs.Words.{words}
 use Rattle.page_turnover.specs.Steps.{CommitsWord, Commits, EndsAs, Appends, StepsFor}
 use Rattle.settings.specs.declared.change.Change.{Change}
-use Rattle.page_turnover.specs.ties.Log.{Describes}
+use Rattle.page_turnover.specs.representation.Log.{Describes}
 use Rattle.settings.specs.declared.store.Work.{Work}
 use Rattle.settings.specs.declared.store.Work.TheVariants.{Working, Stored}
 use Rattle.settings.specs.Works.{Gives}
@@ -14,10 +14,10 @@ use Rattle.settings.specs.declared.store.Job.TheVariants.{Resting, Appending}
 use Rattle.settings.specs.Words.{words_of, IsChange}
 use Rattle.settings.specs.Settings.{settings_of, changed, Same}
 use Rattle.settings.specs.Store.{SettingsValue}
-use Rattle.settings.specs.ties.Store.{Stands, IsAppending}
+use Rattle.settings.specs.representation.Store.{Relation, IsAppending}
 use Rattle.settings.proofs.Storing.{words_more, same_more, stored_last}
 
-pub appending : (image : List ℕ) (changes : List Change) (settings : SettingsValue) (at : ℕ) → Stands image changes settings → settings.job ≡ Appending at → IsAppending image changes settings.log at
+pub appending : (image : List ℕ) (changes : List Change) (settings : SettingsValue) (at : ℕ) → Relation image changes settings → settings.job ≡ Appending at → IsAppending image changes settings.log at
 appending image changes settings at s e = rw e at s.job_is
 
 -- the change that is appended is the one that was lent
@@ -79,11 +79,11 @@ changes_values old changes log next at word new a t w c last =
     let l = a.more in
     stored_last old new a.first changes a.change at a.one (one_is_change old changes log at a) a.words_are (one_word old changes log next at word new a t w c) (omega arith)
 
-pub stands_more : (image : List ℕ) (changes : List Change) (settings : SettingsValue) (log : LogValue) (at : ℕ) → settings.log ≡ log → settings.job ≡ Appending at → Describes image log → IsAppending image changes log at → Stands image changes settings
-stands_more image changes settings log at l j d a = record { log_is = rw l d; job_is = rw (j, l) a }
+pub refines_more : (image : List ℕ) (changes : List Change) (settings : SettingsValue) (log : LogValue) (at : ℕ) → settings.log ≡ log → settings.job ≡ Appending at → Describes image log → IsAppending image changes log at → Relation image changes settings
+refines_more image changes settings log at l j d a = record { log_is = rw l d; job_is = rw (j, l) a }
 
-pub stands_rest : (image : List ℕ) (changes : List Change) (settings : SettingsValue) (log : LogValue) → settings.log ≡ log → settings.job ≡ Resting → Describes image log → log.task ≡ Rest → Stands image changes settings
-stands_rest image changes settings log l j d r = record { log_is = rw l d; job_is = rw (j, l) r }
+pub refines_rest : (image : List ℕ) (changes : List Change) (settings : SettingsValue) (log : LogValue) → settings.log ≡ log → settings.job ≡ Resting → Describes image log → log.task ≡ Rest → Relation image changes settings
+refines_rest image changes settings log l j d r = record { log_is = rw l d; job_is = rw (j, l) r }
 
 -- what the answers mean
 pub gives_more : (old : List ℕ) (changes : List Change) (work : Work) (new : List ℕ) → work ≡ Working → Same (settings_of new) (settings_of old) → Gives old changes work new

@@ -8,7 +8,7 @@ use Rattle.page_turnover.specs.Words.{words, IsTail}
 use Rattle.page_turnover.specs.Log.{HasTailRoom}
 use Rattle.page_turnover.specs.Value.{LogValue, Rest, Wait, Unread, Task}
 use Rattle.page_turnover.specs.Turn.{target_page, copies, offered, HasShortWord}
-use Rattle.page_turnover.specs.ties.Log.{Describes}
+use Rattle.page_turnover.specs.representation.Log.{Describes}
 use Rattle.page_turnover.proofs.Describing.{same_page, held_active, held_none, unsound_none, le_of, le_test}
 use Rattle.page_turnover.proofs.WordLists.{words_none}
 use Rattle.page_turnover.specs.Usable.{IsUsable}
@@ -19,7 +19,7 @@ use Rattle.settings.specs.Settings.{changed}
 use Rattle.settings.specs.Copies.{copies_below}
 use Rattle.settings.specs.Begins.{HasRoomFor, IsAppended, alive}
 use Rattle.settings.specs.Left.{first_words, turn_left, target_of, Needs}
-use Rattle.settings.specs.ties.Store.{IsAppending, IsTurn, IsSeal, AreChanges, given_words, Stands}
+use Rattle.settings.specs.representation.Store.{IsAppending, IsTurn, IsSeal, AreChanges, given_words, Relation}
 use Rattle.settings.proofs.Packing.{some_words}
 use Rattle.settings.proofs.Turning.{erases_left-ready, erases_left-used}
 
@@ -118,16 +118,16 @@ begins_append image (change ∷ []) log d t u c a = by_active log.active refl
           room = omega (arith, s, l);
         }
 
-pub stands_appending : (image : List ℕ) (changes : List Change) (log : LogValue) → Describes image log → log.task ≡ Rest → IsUsable image → AreChanges changes → IsAppended image changes → Stands image changes (record { log = log; job = Appending 0 })
-stands_appending image changes log d t u c a = record { log_is = d; job_is = begins_append image changes log d t u c a }
+pub refines_appending : (image : List ℕ) (changes : List Change) (log : LogValue) → Describes image log → log.task ≡ Rest → IsUsable image → AreChanges changes → IsAppended image changes → Relation image changes (record { log = log; job = Appending 0 })
+refines_appending image changes log d t u c a = record { log_is = d; job_is = begins_append image changes log d t u c a }
 
 none_below : (values : ℕ → Option (List ℕ)) → copies_below values 0 ≡ []
 unfolding copies_below
 none_below values = refl
 
--- a turn that was given nothing
-pub stands_turning : (image : List ℕ) (changes : List Change) (before after : LogValue) → Describes image after → after ≡ record before { task = Wait Unread } → AreChanges changes → alive image changes ≤ 511 → Stands image changes (record { log = after; job = Turning 0 0 })
-stands_turning image changes before after d e c l =
+-- a compaction that was given nothing
+pub refines_turning : (image : List ℕ) (changes : List Change) (before after : LogValue) → Describes image after → after ≡ record before { task = Wait Unread } → AreChanges changes → alive image changes ≤ 511 → Relation image changes (record { log = after; job = Turning 0 0 })
+refines_turning image changes before after d e c l =
     let t : after.task ≡ Wait Unread = ap (λ (log : LogValue). log.task) e in
     let T : Task → Type 0 = λ x. IsTurn x × (copies image x ++ offered x ≡ given_words (changed image changes) 0 0) × (IsSeal x → ⊥) × HasShortWord x in
     let s = subst T (sym t) (tt, rw (words_none image (target_page image), none_below (changed image changes)) refl, (λ f. f), tt) in

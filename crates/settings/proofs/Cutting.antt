@@ -10,7 +10,7 @@ use Rattle.page_turnover.specs.declared.log.ActivePage.{ActivePage}
 use Rattle.page_turnover.specs.declared.operation.Operation.{Operation}
 use Rattle.page_turnover.specs.declared.operation.Operation.TheVariants.{Program, Erase}
 use Rattle.page_turnover.specs.Value.{LogValue, Task, Rest, Append, Wait, Copy, Seal}
-use Rattle.page_turnover.specs.ties.Log.{Describes}
+use Rattle.page_turnover.specs.representation.Log.{Describes}
 use Rattle.page_turnover.specs.Blank.{is_blank}
 use Rattle.page_turnover.specs.Usable.{IsUsable}
 use Rattle.page_turnover.specs.Words.{words}
@@ -27,7 +27,7 @@ use Rattle.settings.specs.Settings.{changed}
 use Rattle.settings.specs.Copies.{all_copies}
 use Rattle.settings.specs.Moments.{MayLeave, IsFault}
 use Rattle.settings.specs.Works.{IsBeforeOrAfter, IsBetween}
-use Rattle.settings.specs.ties.Store.{IsTurn, IsSeal}
+use Rattle.settings.specs.representation.Store.{IsTurn, IsSeal}
 use Rattle.settings.proofs.Storing.{words_more, same_more, stored_last, stored_turn}
 use Rattle.settings.proofs.Known.{known_change, between_kept, between_added, between_copied}
 
@@ -89,7 +89,7 @@ cut_append old changes log next first change at word left d t w o c e l i m =
           between_added old changes left word (λ u. made.usable) v f.words_are (rw w (known_change change c at 0 l)))
     ]
 
--- inside an operation of a turn
+-- inside an operation of a compaction
 turn_effect : (task : Task) (old : List ℕ) (changes : List Change) (operation : Operation) (left : List ℕ) → IsTurn task → AreValues (changed old changes) → (IsSeal task → copies old task ≡ all_copies (changed old changes)) → IsUsable left → IsEffect old task operation left → IsBetween old changes left
 turn_effect Rest old changes operation left t v s u f = absurd t
 turn_effect (Append word) old changes operation left t v s u f = absurd t

@@ -1,11 +1,11 @@
--- The words that a turn was given.
+-- The words that a compaction was given.
 use Rattle.std.proofs.Common.{◌≡◌, ◌∙◌, ℕ, zero, suc, ◌+◌, ◌^◌, ◌<◌, ◌≤◌, refl, sym, ap, arith, List, [], ◌∷◌, ◌++◌, length, take, get_or, Option, None, inl, inr, append_assoc}
 use Rattle.std.proofs.lemmas.Bool.{cases_lt}
 use Rattle.std.proofs.lemmas.List.{append-nil, length-append, take_all, length-take-le}
 use Rattle.settings.specs.declared.change.Change.{Change}
 use Rattle.settings.specs.Words.{words_of}
 use Rattle.settings.specs.Copies.{kept_words, copies_below, all_copies, NoneBetween, IsNext}
-use Rattle.settings.specs.ties.Store.{given_words}
+use Rattle.settings.specs.representation.Store.{given_words}
 use Rattle.settings.proofs.Naming.{copies_gap, copies_next, copies_grow, words_kept}
 use Rattle.settings.proofs.Storing.{take_next}
 

@@ -9,7 +9,7 @@ use Rattle.settings.specs.declared.lookup.Reading.{Reading}
 use Rattle.settings.specs.Words.{is_data, head_of, word_bytes}
 use Rattle.settings.specs.Settings.{gathered, given, change_with, changes_in, after, settings_of}
 use Rattle.page_turnover.specs.Words.{words}
-use Rattle.settings.specs.ties.Reading.{IsPartial, or_before, closed, outcome}
+use Rattle.settings.specs.representation.Reading.{IsPartial, or_before, closed, outcome}
 use Rattle.settings.proofs.Gathering.{gathered-enough, gathered-more, gathered-other, gathered-end}
 use Rattle.settings.proofs.Changes.{changes_in-word, changes_in-data, changes_in-none}
 

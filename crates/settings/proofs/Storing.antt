@@ -53,7 +53,7 @@ stored_last old new first changes change at o c e f l id m =
     let n : changes_in (words new) ≡ changes_in first ++ change ∷ [] = rw (f, all) (whole first change c) in
     rw (n, begun old first change at c e (omega arith), o) refl
 
--- a turn is committed: its copies are the words of all values
+-- a compaction is committed: its copies are the words of all values
 pub stored_turn : (old new : List ℕ) (changes : List Change) (target : Target) → AreValues (changed old changes) → copies old (Seal target) ≡ all_copies (changed old changes) → CommitsTurn old (Seal target) new → Same (settings_of new) (changed old changes)
 stored_turn old new changes target v e c id l =
     let w : words new ≡ all_copies (changed old changes) = c.words_are ∙ e in

@@ -5,7 +5,7 @@ use Rattle.std.proofs.lemmas.List.{take_more, take_more_set, take_all, length-se
 use Rattle.settings.specs.declared.change.Change.{Change}
 use Rattle.settings.specs.Copies.{NoneBetween, IsNext}
 use Rattle.settings.specs.Table.{value_or, kept, ids_below}
-use Rattle.settings.specs.ties.Table.{IsEntry, is_next, is_last, end_of}
+use Rattle.settings.specs.representation.Table.{IsEntry, is_next, is_last, end_of}
 
 or_none : (value : Option (List ℕ)) → value_or value None ≡ value
 or_none (Some bytes) = refl

@@ -1,12 +1,12 @@
--- A turn to the words of all values.
+-- A compaction to the words of all values.
 use Rattle.std.proofs.Common.{◌≡◌, ◌∙◌, ℕ, ◌+◌, ◌^◌, ◌<◌, ◌≤◌, refl, sym, ap, subst, arith, List, [], ◌∷◌, ◌++◌, length, get_or, Option, inl, inr}
 use Rattle.std.proofs.lemmas.Bool.{cases_Bool, cases_lt}
 use Rattle.std.proofs.lemmas.List.{append-nil, length-append}
 use Rattle.page_turnover.specs.declared.log.stepping.Step.{Step}
 use Rattle.page_turnover.specs.declared.log.stepping.Step.TheVariants.{Moved, Committed}
 use Rattle.page_turnover.specs.Value.{LogValue, Target, Unread, Holds, Task, Rest, Append, Wait, Copy, Seal}
-use Rattle.page_turnover.specs.ties.Log.{Describes}
-use Rattle.page_turnover.specs.ties.Turn.{UnderWay}
+use Rattle.page_turnover.specs.representation.Log.{Describes}
+use Rattle.page_turnover.specs.representation.Turn.{UnderWay}
 use Rattle.page_turnover.specs.Turn.{copies, offered, copied, target_page, IsWaiting, IsPending, CanOffer, HasShortWord, with_copy, with_seal}
 use Rattle.page_turnover.specs.Words.{IsBlank}
 use Rattle.page_turnover.specs.Blank.{is_blank}
@@ -24,12 +24,12 @@ use Rattle.settings.specs.Copies.{all_copies, NoneBetween, IsNext}
 use Rattle.settings.specs.Begins.{alive}
 use Rattle.settings.specs.Left.{erases_left, target_of, turn_left, left}
 use Rattle.settings.specs.Store.{SettingsValue}
-use Rattle.settings.specs.ties.Store.{Stands, IsTurning, IsTurn, IsSeal, IsOffered, given_words}
+use Rattle.settings.specs.representation.Store.{Relation, IsTurning, IsTurn, IsSeal, IsOffered, given_words}
 use Rattle.settings.proofs.Storing.{changed_kept, stored_turn}
 use Rattle.settings.proofs.Values.{are_values}
 use Rattle.settings.proofs.Given.{Owns, kept_is, next_inside, given_more, given_last, given_all, given_few, given_fewer}
 
-pub turning : (image : List ℕ) (changes : List Change) (settings : SettingsValue) (from at : ℕ) → Stands image changes settings → settings.job ≡ Turning from at → IsTurning image changes settings.log from at
+pub turning : (image : List ℕ) (changes : List Change) (settings : SettingsValue) (from at : ℕ) → Relation image changes settings → settings.job ≡ Turning from at → IsTurning image changes settings.log from at
 turning image changes settings from at s e = rw e at s.job_is
 
 -- how a task is after a step that commits nothing
@@ -63,7 +63,7 @@ moved_step old log step new after t e ends m =
     let S : Step → Type 0 = λ x. Steps old log x new after in
     after_move log.task old log new after t (subst S e (ends.done (λ f. cc))) m
 
--- a turn that goes on
+-- a compaction that goes on
 pub still_turning : (old : List ℕ) (changes : List Change) (log : LogValue) (from at : ℕ) (step : Step) (new : List ℕ) (after : LogValue) → IsTurning old changes log from at → step ≡ Moved → EndsAs old log step new after → Moves old log.task new after.task → IsTurning new changes after from at
 still_turning old changes log from at step new after j e ends m =
     let n = moved_step old log step new after j.of_turn e ends m in
@@ -79,7 +79,7 @@ still_turning old changes log from at step new after j e ends m =
       fits = rw v j.fits;
     }
 
--- a turn that is committed
+-- a compaction that is committed
 values_for : (task : Task) (old : List ℕ) (changes : List Change) (new : List ℕ) → IsTurn task → AreValues (changed old changes) → (IsSeal task → copies old task ≡ all_copies (changed old changes)) → Commits old task new → Same (settings_of new) (changed old changes)
 values_for Rest old changes new t v a c = absurd t
 values_for (Append word) old changes new t v a c = absurd t
@@ -90,7 +90,7 @@ values_for (Seal target) old changes new t v a c = stored_turn old new changes t
 pub turned_values : (old : List ℕ) (changes : List Change) (log : LogValue) (from at : ℕ) (new : List ℕ) → IsTurning old changes log from at → Commits old log.task new → Same (settings_of new) (changed old changes)
 turned_values old changes log from at new j c = values_for log.task old changes new j.of_turn (are_values old changes j.are_changes) j.all c
 
--- what a turn has left, after each of its operations
+-- what a compaction has left, after each of its operations
 pub erases_left-ready : (image : List ℕ) (target : Target) → IsReady image target → erases_left image target ≡ 0
 unfolding erases_left
 erases_left-ready image Unread r = rw (is_blank-blank image (target_page image) r) refl
@@ -169,7 +169,7 @@ turn_last_left old changes log from at step new after j d e ends =
     let S : Step → Type 0 = λ x. Steps old log x new after in
     left_committed log.task old changes log new after j.of_turn d.task_is j.all (subst S e (ends.done (λ f. cc)))
 
--- what a waiting turn is offered
+-- what a waiting compaction is offered
 copy_target : (task : Task) (word : ℕ) → target_of (with_copy task word) ≡ target_of task
 copy_target Rest word = refl
 copy_target (Append other) word = refl
@@ -184,7 +184,7 @@ seal_target (Wait target) = refl
 seal_target (Copy target word) = refl
 seal_target (Seal target) = refl
 
--- a waiting turn that was offered a copy
+-- a waiting compaction that was offered a copy
 record IsCopying (image : List ℕ) (task : Task) (word : ℕ) : Type 0 where
   of_turn : IsTurn (with_copy task word)
   pending : IsPending (with_copy task word)
@@ -230,10 +230,10 @@ pending_else (Wait target) t n = absurd (n tt)
 pending_else (Copy target word) t n = tt
 pending_else (Seal target) t n = tt
 
--- the turn of settings that were offered nothing, since something is pending
-pub offered_before : (image : List ℕ) (changes : List Change) (settings : SettingsValue) (from at : ℕ) → Stands image changes settings → settings.job ≡ Turning from at → (IsWaiting settings.log.task → ⊥) → IsOffered image changes settings settings
+-- the compaction of settings that were offered nothing, since something is pending
+pub offered_before : (image : List ℕ) (changes : List Change) (settings : SettingsValue) (from at : ℕ) → Relation image changes settings → settings.job ≡ Turning from at → (IsWaiting settings.log.task → ⊥) → IsOffered image changes settings settings
 offered_before image changes settings from at s e n = record {
-  stands = s;
+  refines = s;
   from = from;
   at = at;
   job = e;
@@ -245,7 +245,7 @@ offered_before image changes settings from at s e n = record {
 pub word_inside : (image : List ℕ) (changes : List Change) (log : LogValue) (from at : ℕ) (change : Change) → IsTurning image changes log from at → IsNext (changed image changes) from change → 0 < length (words_of change) → at < length (words_of change)
 word_inside image changes log from at change j n l = next_inside (changed image changes) from at change n j.own l
 
--- the turn of settings that were offered a word: some of its id's are missing, or none
+-- the compaction of settings that were offered a word: some of its id's are missing, or none
 pub record IsMore (values : ℕ → Option (List ℕ)) (words : List ℕ) (job : Job) : Type 0 where
   pub from : ℕ
   pub at : ℕ
@@ -282,7 +282,7 @@ can_take image changes log from at change j d w n l =
     let fits = j.fits in
     can_offer image log.task w d.task_is (rw j.given (omega (arith, f, fits)))
 
--- a turn that was offered a word
+-- a compaction that was offered a word
 pub offered_word : (image : List ℕ) (changes : List Change) (before after : SettingsValue) (from at word : ℕ) (change : Change) → IsTurning image changes before.log from at → IsWaiting before.log.task → Describes image after.log → after.log ≡ record before.log { task = with_copy before.log.task word }
     → IsNext (changed image changes) from change → at < length (words_of change) → word ≡ get_or (words_of change) at 0 → word < 2 ^ 31
     → (at + 1 < length (words_of change) → after.job ≡ Turning change.id (at + 1)) → (length (words_of change) ≤ at + 1 → after.job ≡ Turning (change.id + 1) 0) → IsOffered image changes before after
@@ -304,7 +304,7 @@ offered_word image changes before after from at word change j w d e n l g small 
       fits = j.fits;
     } in
     record {
-      stands = record { log_is = d; job_is = rw m.is turning };
+      refines = record { log_is = d; job_is = rw m.is turning };
       from = m.from;
       at = m.at;
       job = m.is;
@@ -312,7 +312,7 @@ offered_word image changes before after from at word change j w d e n l g small 
       target = s.5;
     }
 
--- a turn that was offered its header
+-- a compaction that was offered its header
 pub offered_seal : (image : List ℕ) (changes : List Change) (before after : SettingsValue) (from at : ℕ) → IsTurning image changes before.log from at → IsWaiting before.log.task → Describes image after.log → after.log ≡ record before.log { task = with_seal before.log.task }
     → after.job ≡ Turning from at → NoneBetween (changed image changes) from (2 ^ 16) → IsOffered image changes before after
 offered_seal image changes before after from at j w d e k n =
@@ -332,7 +332,7 @@ offered_seal image changes before after from at j w d e k n =
       fits = j.fits;
     } in
     record {
-      stands = record { log_is = d; job_is = rw k turning };
+      refines = record { log_is = d; job_is = rw k turning };
       from = from;
       at = at;
       job = k;
@@ -359,8 +359,8 @@ counts_failed before m l = record { none = (λ f. cc, λ f. absurd (omega arith)
 pub moved_down : (old : List ℕ) (changes : List Change) (before middle : SettingsValue) (from at : ℕ) (step : Step) (new : List ℕ) (after : SettingsValue) → before.job ≡ Turning from at → (o : IsOffered old changes before middle) → step ≡ Moved → EndsAs old middle.log step new after.log → Keeps old new
     → after.job ≡ middle.job → CountsDown Working (left old changes before) (left new changes after)
 moved_down old changes before middle from at step new after b o e ends k same =
-    let j = turning old changes middle o.from o.at o.stands o.job in
-    let d = o.stands.log_is in
+    let j = turning old changes middle o.from o.at o.refines o.job in
+    let d = o.refines.log_is in
     let x = left_turn old changes before from at b in
     let y = left_turn new changes after o.from o.at (same ∙ o.job) in
     let z : turn_left old changes (target_of middle.log.task) ≡ turn_left old changes (target_of before.log.task) = ap (λ (t : Target). turn_left old changes t) o.target in
@@ -370,17 +370,17 @@ moved_down old changes before middle from at step new after b o e ends k same =
 pub last_down : (old : List ℕ) (changes : List Change) (before middle : SettingsValue) (from at : ℕ) (step : Step) (new : List ℕ) (after : LogValue) → before.job ≡ Turning from at → (o : IsOffered old changes before middle) → step ≡ Committed → EndsAs old middle.log step new after
     → CountsDown Stored (left old changes before) 0
 last_down old changes before middle from at step new after b o e ends =
-    let j = turning old changes middle o.from o.at o.stands o.job in
+    let j = turning old changes middle o.from o.at o.refines o.job in
     let z : turn_left old changes (target_of middle.log.task) ≡ turn_left old changes (target_of before.log.task) = ap (λ (t : Target). turn_left old changes t) o.target in
-    counts_last (left old changes before) (left_turn old changes before from at b ∙ sym z ∙ turn_last_left old changes middle.log o.from o.at step new after j o.stands.log_is e ends)
+    counts_last (left old changes before) (left_turn old changes before from at b ∙ sym z ∙ turn_last_left old changes middle.log o.from o.at step new after j o.refines.log_is e ends)
 
 pub failed_down : (old : List ℕ) (changes : List Change) (before middle : SettingsValue) (from at : ℕ) → before.job ≡ Turning from at → (o : IsOffered old changes before middle) → CountsDown Failed (left old changes before) 0
 failed_down old changes before middle from at b o =
-    let j = turning old changes middle o.from o.at o.stands o.job in
+    let j = turning old changes middle o.from o.at o.refines o.job in
     let x = left_turn old changes before from at b in
     counts_failed (left old changes before) (rw x (omega arith)) (rw x (few_turn old changes (target_of before.log.task) j.fits))
 
-pub still_stands : (old : List ℕ) (changes : List Change) (before middle : SettingsValue) (step : Step) (new : List ℕ) (after : SettingsValue) → (o : IsOffered old changes before middle) → step ≡ Moved → EndsAs old middle.log step new after.log → Moves old middle.log.task new after.log.task → after.job ≡ middle.job → Stands new changes after
-still_stands old changes before middle step new after o e ends m same =
-    let j = turning old changes middle o.from o.at o.stands o.job in
+pub still_refines : (old : List ℕ) (changes : List Change) (before middle : SettingsValue) (step : Step) (new : List ℕ) (after : SettingsValue) → (o : IsOffered old changes before middle) → step ≡ Moved → EndsAs old middle.log step new after.log → Moves old middle.log.task new after.log.task → after.job ≡ middle.job → Relation new changes after
+still_refines old changes before middle step new after o e ends m same =
+    let j = turning old changes middle o.from o.at o.refines o.job in
     record { log_is = ends.describes; job_is = rw (same, o.job) (still_turning old changes middle.log o.from o.at step new after.log j e ends m) }

@@ -8,7 +8,7 @@ use Rattle.settings.specs.declared.words.Head.{Head}
 use Rattle.settings.specs.declared.change.Change.{Change}
 use Rattle.settings.specs.Words.{is_data, word_bytes, head_of, IsValueIfSome, IsChange, AreValues}
 use Rattle.settings.specs.Settings.{gathered, given, change_with, change_at, changes_in, after, changed}
-use Rattle.settings.specs.ties.Store.{AreChanges}
+use Rattle.settings.specs.representation.Store.{AreChanges}
 use Rattle.settings.proofs.Gathering.{AreBytes}
 use Rattle.settings.proofs.Changes.{changes_in-word, changes_in-none}
 

@@ -13,8 +13,8 @@ use Rattle.settings.specs.Left.{left, first_words, Needs}
 use Rattle.settings.specs.Moments.{IsOperation, IsFault, AtEachMoment, begins, goes_on}
 use Rattle.settings.specs.Store.{SettingsValue, IsBusy}
 use Rattle.settings.specs.Works.{IsBeforeOrAfter, IsBetween, GoesTo, WritesMore, WritesLast, HasMade, Stores}
-use Rattle.settings.specs.ties.Store.{Stands, IsAppending, AreChanges}
-use Rattle.settings.specs.ties.Whole.{Makes, SoFar}
+use Rattle.settings.specs.representation.Store.{Relation, IsAppending, AreChanges}
+use Rattle.settings.specs.representation.Whole.{Makes, SoFar}
 use Rattle.std.proofs.lemmas.Bool.{cases_eq}
 use Rattle.std.proofs.lemmas.List.{append-nil}
 use Rattle.page_turnover.specs.Words.{words}
@@ -25,7 +25,7 @@ use Rattle.settings.proofs.Values.{are_values}
 use Rattle.settings.proofs.Written.{written_none, written_step}
 
 -- never more than an erase, 511 words and a header
-few_for : (job : Job) (image : List ℕ) (changes : List Change) (settings : SettingsValue) → settings.job ≡ job → Stands image changes settings → left image changes settings ≤ 513
+few_for : (job : Job) (image : List ℕ) (changes : List Change) (settings : SettingsValue) → settings.job ≡ job → Relation image changes settings → left image changes settings ≤ 513
 few_for Resting image changes settings e s = rw e (omega arith)
 few_for (Appending at) image changes settings e s =
     let a : IsAppending image changes settings.log at = rw e at s.job_is in
@@ -36,7 +36,7 @@ few_for (Turning from at) image changes settings e s =
     let j = rw e at s.job_is in
     rw e (few_turn image changes _ j.fits)
 
-pub few_left : (image : List ℕ) (changes : List Change) (settings : SettingsValue) → Stands image changes settings → left image changes settings ≤ 513
+pub few_left : (image : List ℕ) (changes : List Change) (settings : SettingsValue) → Relation image changes settings → left image changes settings ≤ 513
 few_left image changes settings s = few_for settings.job image changes settings refl s
 
 -- values that are the same as others, which are those before the changes
@@ -51,9 +51,9 @@ between_both : (old middle : List ℕ) (changes : List Change) (new : List ℕ) 
 between_both old middle changes new k a b = record { values = both old middle changes new k b.values; usable = λ u. b.usable (a.usable u); known = λ h. b.known (a.known h) }
 
 pub so_far_none : {F : Type 0} (image : F → List ℕ) (operations : F → ℕ) (operates : F → FlashOperation → F → Type 0) (is_faultless : F → Type 0) (changes : List Change) (old : F) (settings : SettingsValue)
-    → Stands (image old) changes settings → IsBusy settings.job → GoesTo (image old) changes settings.job → Needs (image old) changes (left (image old) changes settings) → SoFar image operations operates is_faultless changes (left (image old) changes settings) old settings old
+    → Relation (image old) changes settings → IsBusy settings.job → GoesTo (image old) changes settings.job → Needs (image old) changes (left (image old) changes settings) → SoFar image operations operates is_faultless changes (left (image old) changes settings) old settings old
 so_far_none image operations operates is_faultless changes old settings s b g n = record {
-  stands = s;
+  refines = s;
   kept = λ x id l. refl;
   stored = λ x. absurd (x b);
   moments = begins (between_none (image old) changes);
@@ -78,7 +78,7 @@ moments_more image operates changes old middle new k m e o b =
     goes_on middle new m (record { operation = o.operation; made = o.made; cut = λ cut i may. between_both (image old) (image middle) changes cut k e (o.cut cut i may) }) (between_both (image old) (image middle) changes (image new) k e b)
 
 pub so_far_more : {F : Type 0} (image : F → List ℕ) (operations : F → ℕ) (operates : F → FlashOperation → F → Type 0) (is_faultless : F → Type 0) (changes : List Change) (failed : Bool) (first last : ℕ) (old : F) (before : SettingsValue) (middle : F) (after : SettingsValue) (new : F)
-    → SoFar image operations operates is_faultless changes first old before middle → IsBusy before.job → Makes image operations operates is_faultless changes failed first last middle new → Stands (image new) changes after → failed ≡ false
+    → SoFar image operations operates is_faultless changes first old before middle → IsBusy before.job → Makes image operations operates is_faultless changes failed first last middle new → Relation (image new) changes after → failed ≡ false
     → (IsBusy after.job → Same (settings_of (image new)) (settings_of (image middle))) → ((IsBusy after.job → ⊥) → Same (settings_of (image new)) (changed (image middle) changes))
     → (IsBusy after.job → WritesMore before.job (image middle) changes (image new) after.job) → ((IsBusy after.job → ⊥) → WritesLast before.job (image middle) changes (image new))
     → SoFar image operations operates is_faultless changes last old after new
@@ -87,7 +87,7 @@ so_far_more image operations operates is_faultless changes failed first last old
     let one = m.one f in
     let all = s.all in
     record {
-      stands = t;
+      refines = t;
       kept = λ x id l. kept x id l ∙ k id l;
       stored = λ x id l. stored x id l ∙ changed_same (image old) (image middle) changes k id l;
       moments = moments_more image operates changes old middle new k s.moments s.ends m.operation m.ends;

@@ -13,8 +13,8 @@ use Rattle.page_turnover.specs.Turn.{copies, copied, target_page, next_seq}
 use Rattle.page_turnover.specs.Usable.{IsUsable}
 use Rattle.page_turnover.specs.Value.{LogValue, Task, Rest, Append, Wait, Copy, Seal}
 use Rattle.page_turnover.specs.Words.{words}
-use Rattle.page_turnover.specs.ties.Log.{Describes}
-use Rattle.page_turnover.specs.ties.Turn.{UnderWay}
+use Rattle.page_turnover.specs.representation.Log.{Describes}
+use Rattle.page_turnover.specs.representation.Turn.{UnderWay}
 use Rattle.page_turnover.proofs.Describing.{held_active}
 use Rattle.page_turnover.proofs.Endings.{waiting_count}
 use Rattle.settings.specs.declared.change.Change.{Change}
@@ -29,8 +29,8 @@ use Rattle.settings.specs.Begins.{alive}
 use Rattle.settings.specs.Places.{own_words, Adds, IsCompacted, AreWritten}
 use Rattle.settings.specs.Store.{IsBusy}
 use Rattle.settings.specs.Works.{IsBetween, IsBeforeOrAfter, GoesTo, Writes, WritesMore, WritesLast}
-use Rattle.settings.specs.ties.Store.{IsAppending, IsTurning, IsTurn, IsSeal}
-use Rattle.settings.specs.ties.Whole.{WrittenSoFar}
+use Rattle.settings.specs.representation.Store.{IsAppending, IsTurning, IsTurn, IsSeal}
+use Rattle.settings.specs.representation.Whole.{WrittenSoFar}
 use Rattle.settings.proofs.Storing.{changed_kept, take_next}
 use Rattle.settings.proofs.Values.{are_values}
 use Rattle.settings.proofs.Known.{known_change, between_added, between_copied}
@@ -65,7 +65,7 @@ between_word old changes log next at word new a t w c u =
     ] in
     between_added old changes new word u v f.words_are (rw w (known_change a.change (one_is_change old changes log at a) at 0 a.more))
 
--- a step of a turn
+-- a step of a compaction
 pages_same : (old new : List ℕ) → Operates old new → page_count new ≡ page_count old
 pages_same old new (programs u page slot word p s w free g) = page_count-one_slot old page slot new g.rest
 pages_same old new (erases u page p n g) = page_count-one_page old page new g.rest

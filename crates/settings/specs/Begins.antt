@@ -1,4 +1,4 @@
--- Believed: when changes are refused, and where they go.
+-- Trusted: when changes are refused, and where they go.
 use Rattle.shapes.specs.Shapes.{Bytes}
 use Rattle.std.specs.Prelude.{◌≡◌, ℕ, ◌+◌, ◌-◌, ◌^◌, ◌≤◌, ◌<◌, IsTrue, All, List, [], ◌∷◌, Some, length}
 use Rattle.page_turnover.specs.Active.{active, format}
@@ -40,7 +40,7 @@ pub record IsLast (image : Bytes) : Type 0 where
   pub page : ℕ
   pub last : active image ≡ Some (page, 2 ^ 28 - 1)
 
--- why changes are refused, in this order; nothing is written then. `Fault` is told where the flash did not take an operation
+-- why changes are refused, in this order; nothing is written then. `Fault` is reported where the flash did not take an operation
 abbrev pub IsRefused : Bytes → List Change → SettingsError → Type 0
 IsRefused image changes TooLong = ⊥
 IsRefused image changes Unsound = IsUsable image → ⊥

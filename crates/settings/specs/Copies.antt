@@ -1,4 +1,4 @@
--- Believed: the words that a compaction writes.
+-- Trusted: the words that a compaction writes.
 use Rattle.shapes.specs.Shapes.{Bytes, SlotWords}
 use Rattle.std.specs.Prelude.{◌≡◌, ℕ, ◌<◌, ◌≤◌, ◌^◌, zero, suc, Option, Some, None, [], ◌++◌}
 use Rattle.settings.specs.declared.change.Change.{Change}

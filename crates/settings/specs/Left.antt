@@ -1,4 +1,4 @@
--- Believed: how many flash operations the changes under way still need.
+-- Trusted: how many flash operations the changes under way still need.
 use Rattle.shapes.specs.Shapes.{Bytes}
 use Rattle.std.specs.Prelude.{◌≡◌, ℕ, ◌+◌, ◌-◌, List, if◌then◌else◌, length}
 use Rattle.page_turnover.specs.Value.{LogValue, Target, Unread, Holds, Task, Wait, Copy, Seal}
@@ -12,19 +12,19 @@ use Rattle.settings.specs.Begins.{IsAppended, alive}
 use Rattle.settings.specs.Places.{own_words}
 use Rattle.settings.specs.Store.{SettingsValue}
 
--- 1 where the target of a turn has to be erased: it was not read yet, and is not blank; else 0
+-- 1 where the target of a compaction has to be erased: it was not read yet, and is not blank; else 0
 unfoldable pub erases_left : Bytes → Target → ℕ
 erases_left image Unread = if is_blank image (target_page image) then 0 else 1
 erases_left image (Holds n) = 0
 
--- what a log knows of the target of its turn
+-- what a log knows of the target of its compaction
 abbrev pub target_of : Task → Target
 target_of (Wait target) = target
 target_of (Copy target word) = target
 target_of (Seal target) = target
 target_of _ = Unread
 
--- a turn needs its erase, the copies that it has not made, and its header
+-- a compaction needs its erase, the copies that it has not made, and its header
 abbrev pub turn_left : Bytes → List Change → Target → ℕ
 turn_left image changes target = erases_left image target + (alive image changes - copied target) + 1
 

@@ -8,4 +8,4 @@ pub mod Places
 pub mod Left
 pub mod Moments
 pub mod Works
-pub mod ties
+pub mod representation

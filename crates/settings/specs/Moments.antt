@@ -1,4 +1,4 @@
--- Believed: what a loss of power may leave at any moment of a call.
+-- Trusted: what a loss of power may leave at any moment of a call.
 use Rattle.shapes.specs.Shapes.{Bytes}
 use Rattle.std.specs.Prelude.{◌≡◌, ℕ, ◌+◌, ◌%◌, ◌^◌}
 use Rattle.flash_model.specs.Image.{IsImage}

@@ -1,4 +1,4 @@
--- Believed: where changes are written.
+-- Trusted: where changes are written.
 use Rattle.shapes.specs.Shapes.{Bytes, SlotWords}
 use Rattle.std.specs.Prelude.{◌≡◌, ◌+◌, Some, List, [], ◌∷◌, ◌++◌}
 use Rattle.page_turnover.specs.Active.{active, format}

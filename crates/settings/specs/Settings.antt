@@ -1,4 +1,4 @@
--- Believed: the settings that some words stand for.
+-- Trusted: the settings that some words stand for.
 use Rattle.shapes.specs.Shapes.{Bytes, SlotWords}
 use Rattle.std.specs.Prelude.{◌≡◌, ℕ, ◌<◌, ◌^◌, ◌==◌, nat_le, if◌then◌else◌, Option, Some, None, List, [], ◌∷◌, ◌++◌, length, take}
 use Rattle.page_turnover.specs.Words.{words}

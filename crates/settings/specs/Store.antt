@@ -1,4 +1,4 @@
--- Believed where this crate is called: the parts of settings in flash, and whether changes are under way.
+-- Trusted where this crate is called: the parts of settings in flash, and whether changes are under way.
 use Rattle.page_turnover.specs.Value.{LogValue}
 use Rattle.settings.specs.declared.store.Job.{Job}
 use Rattle.settings.specs.declared.store.Job.TheVariants.{Resting, Appending, Turning}
@@ -14,7 +14,7 @@ IsBusy Resting = ⊥
 IsBusy (Appending at) = Unit {0}
 IsBusy (Turning from at) = Unit {0}
 
--- they take a turn
+-- they take a compaction
 abbrev pub TakesTurn : Job → Type 0
 TakesTurn Resting = ⊥
 TakesTurn (Appending at) = ⊥

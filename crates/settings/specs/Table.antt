@@ -1,4 +1,4 @@
--- Believed: what a table of values says of an id, and when it has the values of an image.
+-- Trusted: what a table of values says of an id, and when it has the values of an image.
 use Rattle.shapes.specs.Shapes.{Bytes}
 use Rattle.std.specs.Prelude.{◌≡◌, ◌≢◌, ℕ, ◌+◌, ◌<◌, ◌^◌, ◌==◌, zero, suc, if◌then◌else◌, Option, Some, None, List, [], ◌∷◌}
 use Rattle.settings.specs.declared.change.Change.{Change}

@@ -1,4 +1,4 @@
--- Believed: the words that a change of a setting is kept as.
+-- Trusted: the words that a change of a setting is kept as.
 use Rattle.shapes.specs.Shapes.{Bytes, SlotWords}
 use Rattle.std.specs.Prelude.{ℕ, ◌+◌, ◌*◌, ◌/◌, ◌%◌, ◌^◌, ◌<◌, ◌≤◌, ◌==◌, slice_index, ◌&&◌, ◌||◌, nat_le, Bool, is_some, if◌then◌else◌, Option, Some, None, [], ◌∷◌, length}
 use Rattle.settings.specs.declared.words.Head.{Head}

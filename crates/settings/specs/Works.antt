@@ -1,4 +1,4 @@
--- Believed: what a step does, and what a whole call leaves.
+-- Trusted: what a step does, and what a whole call leaves.
 use Rattle.shapes.specs.Shapes.{Bytes}
 use Rattle.std.specs.Prelude.{◌≡◌, ◌≢◌, ◌↔◌, ◌⊎◌, ℕ, ◌+◌, ◌%◌, ◌^◌, ◌<◌, ◌≤◌, List, [], ◌∷◌, slice_index, length, Result, Err, IsOk}
 use Rattle.flash_model.specs.FlashOperation.{FlashOperation}
@@ -35,7 +35,7 @@ Gives old changes Working new = Same (settings_of new) (settings_of old)
 Gives old changes Stored new = Same (settings_of new) (changed old changes)
 Gives old changes Failed new = Same (settings_of new) (settings_of old)
 
--- where changes go that were just taken: one alone is appended, where there is room for its words; all others take a turn
+-- where changes go that were just taken: one alone is appended, where there is room for its words; all others take a compaction
 abbrev pub GoesTo : Bytes → List Change → Job → Type 0
 GoesTo image changes Resting = ⊥
 GoesTo image changes (Appending at) = IsAppended image changes × (at ≡ 0)
@@ -48,7 +48,7 @@ GoesOn before Working after = IsBusy before × IsBusy after
 GoesOn before Stored after = IsBusy before × (after ≡ Resting)
 GoesOn before Failed after = IsBusy before × (after ≡ Resting)
 
--- while changes are under way, the next word of one that is appended is written; a turn leaves the words and the active page as they are
+-- while changes are under way, the next word of one that is appended is written; a compaction leaves the words and the active page as they are
 abbrev pub WritesMore : Job → Bytes → List Change → Bytes → Job → Type 0
 WritesMore Resting old changes new after = ⊥
 WritesMore (Appending at) old changes new after = Adds old (slice_index (own_words changes) at ∷ []) new × (after ≡ Appending (at + 1)) × (at + 1 < length (own_words changes))

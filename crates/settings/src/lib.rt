@@ -2,11 +2,11 @@
 //! words are alive: a value of n bytes takes 1 + (n + 2) / 3 of them, so some 1,500 bytes of values fit.
 //!
 //! A change is kept as words of a log, and is in force once its last word is there, and not before
-//! (`laws::whole_or_absent`). Of each id the last change counts. A compaction writes the words of all
-//! values to a new page, and they stand for the same values (`laws::compacted`).
+//! (`theorems::whole_or_absent`). Of each id the last change counts. A compaction writes the words of all
+//! values to a new page, and they stand for the same values (`theorems::compacted`).
 //!
 //! `Settings` keeps the log and what is under way; values are looked up in the flash, or in a table that
-//! the caller lends (`fill_table`). The promise is that each lookup is exact, whatever words a cut has
+//! the caller lends (`fill_table`). The guarantee is that each lookup is exact, whatever words a cut has
 //! left, and that at each moment of a call all of its changes are in force or none, also where the
 //! power is cut inside a flash operation. What was answered `Ok` is in force. A call makes at most 513
 //! operations, and a healthy flash with room stores each change. `step` makes one operation, for a loop
@@ -14,10 +14,10 @@
 #![tactic(auto)]
 
 mod change;
-pub mod laws;
 mod lookup;
 mod store;
 mod table;
+pub mod theorems;
 mod words;
 
 pub use change::{Change, MAX_BYTES, Value};

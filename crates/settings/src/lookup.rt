@@ -3,12 +3,12 @@
 ghost use Rattle.std.specs.Prelude.{◌≡◌, ◌+◌, ◌<◌, ◌≤◌, ◌^◌, ◌↔◌, ℕ, List, ◌∷◌, ◌++◌, IsTrue, true, Some, None, MatchOption, length, take, All};
 ghost use Rattle.flash_model.specs.Image.{page_count};
 ghost use Rattle.page_turnover.specs.Words.{words};
-ghost use Rattle.page_turnover.specs.ties.Log.{Describes};
+ghost use Rattle.page_turnover.specs.representation.Log.{Describes};
 ghost use Rattle.settings.specs.Words.{is_known};
 ghost use Rattle.settings.specs.Settings.{settings_of, settled, changed};
 ghost use Rattle.settings.specs.Copies.{IsNext, NoneBetween, all_copies};
 ghost use Rattle.settings.specs.Words.{is_data, head_of, word_bytes};
-ghost use Rattle.settings.specs.ties.Reading.{IsPartial, IsLen, outcome};
+ghost use Rattle.settings.specs.representation.Reading.{IsPartial, IsLen, outcome};
 
 use crate::change::{Change, ROOM, Value};
 use crate::words::{head_of, is_data, is_known, size, word_bytes};

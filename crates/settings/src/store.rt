@@ -3,7 +3,7 @@
 ghost use Rattle.std.specs.Prelude.{◌≡◌, ◌≢◌, ◌+◌, ◌<◌, ◌≤◌, ◌^◌, ◌↔◌, ℕ, List, IsTrue, IsOk, Ok, Err, MatchResult, MatchOption, Some, None, IsSome, length, [], ◌∷◌, true, false};
 ghost use Rattle.flash_model.specs.Image.{page_count};
 ghost use Rattle.page_turnover.specs.Value.{Rest};
-ghost use Rattle.page_turnover.specs.ties.Log.{Describes};
+ghost use Rattle.page_turnover.specs.representation.Log.{Describes};
 ghost use Rattle.settings.specs.declared.store.Job.{Job};
 ghost use Rattle.settings.specs.declared.store.Work.{Work};
 ghost use Rattle.settings.specs.declared.store.SettingsError.{SettingsError};
@@ -12,7 +12,7 @@ ghost use Rattle.settings.specs.Begins.{IsAppended, HasRoomFor};
 ghost use Rattle.settings.specs.declared.change.Change.{Change};
 ghost use Rattle.settings.specs.Settings.{settings_of, changed, Same};
 ghost use Rattle.settings.specs.Copies.{NoneBetween, IsNext};
-ghost use Rattle.settings.specs.ties.Store.{AreChanges};
+ghost use Rattle.settings.specs.representation.Store.{AreChanges};
 
 use crate::change::{Change, Value, are_changes};
 use crate::lookup::{PAGE_WORDS, all_known, next_value, value_in, words_alive};
@@ -61,7 +61,7 @@ pub enum Job {
     Resting,
     /// The words of one change, of which so many are there.
     Appending(usize),
-    /// A turn to a page with all values: it was given the words of the ids below `from`, and `at` of
+    /// A compaction to a page with all values: it was given the words of the ids below `from`, and `at` of
     /// those of `from`.
     Turning { from: u32, at: usize },
 }
@@ -87,18 +87,18 @@ impl Model for Settings {
 
 impl Settings {
     ghost use Rattle.settings.specs.Store.{IsBusy};
-    ghost use Rattle.settings.specs.ties.Store.{Stands, StandsFor, IsOffered};
+    ghost use Rattle.settings.specs.representation.Store.{Relation, Refines, IsOffered};
     ghost use Rattle.settings.specs.Begins.{alive, IsRefused, IsAccepted};
     ghost use Rattle.settings.specs.Left.{left, Needs};
     ghost use Rattle.settings.specs.Works.{IsBetween, Gives, GoesTo, GoesOn, Writes, WritesMore, WritesLast, CountsDown, HasMade, Stores};
     ghost use Rattle.settings.specs.Places.{AreWritten, IsCompacted};
-    ghost use Rattle.settings.specs.ties.Whole.{Makes};
+    ghost use Rattle.settings.specs.representation.Whole.{Makes};
     ghost use Rattle.settings.specs.Moments.{IsOperation, IsFault};
     ghost use Rattle.page_turnover.specs.Steps.{CountsAs};
 
     /// Reads the log of a flash, and changes nothing.
     pub fn mount<F: NorFlash>(flash: &F) -> Settings
-        ensures stands { (changes : List Change) → Stands (F.image flash.now) changes result }
+        ensures refines { (changes : List Change) → Relation (F.image flash.now) changes result }
         ensures rests { IsBusy result.job → ⊥ }
     {
         Settings {
@@ -119,7 +119,7 @@ impl Settings {
 
     /// The value of an id, if it has one. It is looked up in the flash.
     pub fn get<F: NorFlash>(&self, flash: &F, id: u16) -> Option<Value>
-        requires { StandsFor (F.image flash.now) self.now }
+        requires { Refines (F.image flash.now) self.now }
         ensures { result ≡ settings_of (F.image flash.now) id }
     {
         value_in(&self.log, flash, id)
@@ -127,7 +127,7 @@ impl Settings {
 
     /// Whether an id has a value.
     pub fn contains<F: NorFlash>(&self, flash: &F, id: u16) -> bool
-        requires { StandsFor (F.image flash.now) self.now }
+        requires { Refines (F.image flash.now) self.now }
         ensures { IsTrue result ↔ IsSome (settings_of (F.image flash.now) id) }
     {
         value_in(&self.log, flash, id).is_some()
@@ -137,7 +137,7 @@ impl Settings {
     /// last answer, all that there are.
     pub fn next_from<F: NorFlash>(&self, flash: &F, from: u32) -> Option<Change>
         requires small { from ≤ 2 ^ 16 }
-        requires stands { StandsFor (F.image flash.now) self.now }
+        requires refines { Refines (F.image flash.now) self.now }
         ensures { MatchOption result (NoneBetween (settings_of (F.image flash.now)) from (2 ^ 16)) (λ change. IsNext (settings_of (F.image flash.now)) from change) }
     {
         next_value(&self.log, flash, &[], from)
@@ -145,7 +145,7 @@ impl Settings {
 
     /// How many words of the 511 of a page no value takes.
     pub fn room_left<F: NorFlash>(&self, flash: &F) -> usize
-        requires { StandsFor (F.image flash.now) self.now }
+        requires { Refines (F.image flash.now) self.now }
         ensures fits { alive (F.image flash.now) [] ≤ 511 → result + alive (F.image flash.now) [] ≡ 511 }
         ensures full { 511 < alive (F.image flash.now) [] → result ≡ 0 }
     {
@@ -164,8 +164,8 @@ impl Settings {
         id: u16,
         bytes: &[u8],
     ) -> Result<(), SettingsError>
-        requires { StandsFor (F.image flash.old) self.old }
-        ensures stands { StandsFor (F.image flash.new) self.new }
+        requires { Refines (F.image flash.old) self.old }
+        ensures refines { Refines (F.image flash.new) self.new }
         ensures stores { length bytes.now ≤ 64 → Stores F.image F.operations F.faults F.operates F.is_faultless (record { id = id; value = Some bytes.now } ∷ []) result flash.old flash.new }
         ensures same { settings_of (F.image flash.old) id ≡ Some bytes.now → IsOk result × (flash.new ≡ flash.old) }
         ensures written { settings_of (F.image flash.old) id ≢ Some bytes.now → IsOk result → AreWritten (F.image flash.old) (record { id = id; value = Some bytes.now } ∷ []) (F.image flash.new) }
@@ -186,8 +186,8 @@ impl Settings {
 
     /// Takes an id its value. Nothing is written where it has none.
     pub fn remove<F: NorFlash>(&mut self, flash: &mut F, id: u16) -> Result<(), SettingsError>
-        requires { StandsFor (F.image flash.old) self.old }
-        ensures stands { StandsFor (F.image flash.new) self.new }
+        requires { Refines (F.image flash.old) self.old }
+        ensures refines { Refines (F.image flash.new) self.new }
         ensures stores { Stores F.image F.operations F.faults F.operates F.is_faultless (record { id = id; value = None } ∷ []) result flash.old flash.new }
         ensures same { settings_of (F.image flash.old) id ≡ None → IsOk result × (flash.new ≡ flash.old) }
         ensures written { settings_of (F.image flash.old) id ≢ None → IsOk result → AreWritten (F.image flash.old) (record { id = id; value = None } ∷ []) (F.image flash.new) }
@@ -199,8 +199,8 @@ impl Settings {
     /// Moves the values to the next page, which then has room for changes. Changes do so by themselves
     /// where they must.
     pub fn compact<F: NorFlash>(&mut self, flash: &mut F) -> Result<(), SettingsError>
-        requires { StandsFor (F.image flash.old) self.old }
-        ensures stands { StandsFor (F.image flash.new) self.new }
+        requires { Refines (F.image flash.old) self.old }
+        ensures refines { Refines (F.image flash.new) self.new }
         ensures stores { Stores F.image F.operations F.faults F.operates F.is_faultless [] result flash.old flash.new }
         ensures compacted { IsOk result → IsCompacted (F.image flash.old) [] (F.image flash.new) }
         ensures count { IsOk result → HasMade (Needs (F.image flash.old) []) (F.operations flash.old) (F.operations flash.new) }
@@ -210,8 +210,8 @@ impl Settings {
 
     /// Stores a change, unless it changes nothing.
     fn store<F: NorFlash>(&mut self, flash: &mut F, change: Change) -> Result<(), SettingsError>
-        requires { StandsFor (F.image flash.old) self.old }
-        ensures stands { StandsFor (F.image flash.new) self.new }
+        requires { Refines (F.image flash.old) self.old }
+        ensures refines { Refines (F.image flash.new) self.new }
         ensures stores { Stores F.image F.operations F.faults F.operates F.is_faultless (change ∷ []) result flash.old flash.new }
         ensures same { settings_of (F.image flash.old) change.id ≡ change.value → IsOk result × (flash.new ≡ flash.old) }
         ensures written { settings_of (F.image flash.old) change.id ≢ change.value → IsOk result → AreWritten (F.image flash.old) (change ∷ []) (F.image flash.new) }
@@ -231,9 +231,9 @@ impl Settings {
     /// each of at most 511 words, and one for the header. Refused are, in this order, `Unsound`,
     /// `Foreign`, `Full` and `Worn`.
     pub fn begin<F: NorFlash>(&mut self, flash: &F, changes: &[Change]) -> Result<(), SettingsError>
-        requires { StandsFor (F.image flash.now) self.old }
+        requires { Refines (F.image flash.now) self.old }
         ensures refused { MatchResult result (λ _. IsAccepted (F.image flash.now) changes.now) (λ why. IsRefused (F.image flash.now) changes.now why) }
-        ensures stands { Stands (F.image flash.now) changes.now self.new }
+        ensures refines { Relation (F.image flash.now) changes.now self.new }
         ensures busy { IsOk result ↔ IsBusy self.new.job }
         ensures goes_to { IsOk result → GoesTo (F.image flash.now) changes.now self.new.job }
         ensures needs { IsOk result → Needs (F.image flash.now) changes.now (left (F.image flash.now) changes.now self.new) }
@@ -270,8 +270,8 @@ impl Settings {
         flash: &mut F,
         changes: &[Change],
     ) -> Result<(), SettingsError>
-        requires { StandsFor (F.image flash.old) self.old }
-        ensures stands { StandsFor (F.image flash.new) self.new }
+        requires { Refines (F.image flash.old) self.old }
+        ensures refines { Refines (F.image flash.new) self.new }
         ensures stores { Stores F.image F.operations F.faults F.operates F.is_faultless changes.now result flash.old flash.new }
         ensures written { IsOk result → AreWritten (F.image flash.old) changes.now (F.image flash.new) }
         ensures count { IsOk result → HasMade (Needs (F.image flash.old) changes.now) (F.operations flash.old) (F.operations flash.new) }
@@ -289,9 +289,9 @@ impl Settings {
 
     /// Makes a step of changes that are under way, and says whether it failed.
     fn fails<F: NorFlash>(&mut self, flash: &mut F, changes: &[Change]) -> bool
-        requires stands { Stands (F.image flash.old) changes.now self.old }
+        requires refines { Relation (F.image flash.old) changes.now self.old }
         requires busy { IsBusy self.old.job }
-        ensures stands { Stands (F.image flash.new) changes.now self.new }
+        ensures refines { Relation (F.image flash.new) changes.now self.new }
         ensures makes { Makes F.image F.operations F.operates F.is_faultless changes.now result (left (F.image flash.old) changes.now self.old) (left (F.image flash.new) changes.now self.new) flash.old flash.new }
         ensures kept { IsBusy self.new.job → Same (settings_of (F.image flash.new)) (settings_of (F.image flash.old)) }
         ensures failed { IsTrue result → Same (settings_of (F.image flash.new)) (settings_of (F.image flash.old)) }
@@ -308,7 +308,7 @@ impl Settings {
 
     /// Forgets what is under way.
     fn rest<F: NorFlash>(&mut self, flash: &F)
-        requires { StandsFor (F.image flash.now) self.old }
+        requires { Refines (F.image flash.now) self.old }
         ensures describes { Describes (F.image flash.now) self.new.log }
         ensures task { self.new.log.task ≡ Rest }
         ensures rests { self.new.job ≡ Job.Resting }
@@ -324,8 +324,8 @@ impl Settings {
     /// `changes` are those that were begun. `Failed` is answered where the flash answers a fault and
     /// the operation's slot or page does not read as intended, and only there.
     pub fn step<F: NorFlash>(&mut self, flash: &mut F, changes: &[Change]) -> Work
-        requires { Stands (F.image flash.old) changes.now self.old }
-        ensures stands { Stands (F.image flash.new) changes.now self.new }
+        requires { Relation (F.image flash.old) changes.now self.old }
+        ensures refines { Relation (F.image flash.new) changes.now self.new }
         // what the answer means for the values and the changes
         ensures gives { Gives (F.image flash.old) changes.now result (F.image flash.new) }
         ensures goes_on { GoesOn self.old.job result self.new.job }
@@ -348,9 +348,9 @@ impl Settings {
 
     /// Appends the next word of the change.
     fn append<F: NorFlash>(&mut self, flash: &mut F, changes: &[Change], at: usize) -> Work
-        requires stands { Stands (F.image flash.old) changes.now self.old }
+        requires refines { Relation (F.image flash.old) changes.now self.old }
         requires job { self.old.job ≡ Job.Appending at }
-        ensures stands { Stands (F.image flash.new) changes.now self.new }
+        ensures refines { Relation (F.image flash.new) changes.now self.new }
         ensures gives { Gives (F.image flash.old) changes.now result (F.image flash.new) }
         ensures goes_on { GoesOn self.old.job result self.new.job }
         ensures writes { Writes self.old.job result (F.image flash.old) changes.now (F.image flash.new) self.new.job }
@@ -390,11 +390,11 @@ impl Settings {
         }
     }
 
-    /// Goes on with a turn.
+    /// Goes on with a compaction.
     fn turn<F: NorFlash>(&mut self, flash: &mut F, changes: &[Change], from: u32, at: usize) -> Work
-        requires stands { Stands (F.image flash.old) changes.now self.old }
+        requires refines { Relation (F.image flash.old) changes.now self.old }
         requires job { self.old.job ≡ Job.Turning from at }
-        ensures stands { Stands (F.image flash.new) changes.now self.new }
+        ensures refines { Relation (F.image flash.new) changes.now self.new }
         ensures gives { Gives (F.image flash.old) changes.now result (F.image flash.new) }
         ensures goes_on { GoesOn self.old.job result self.new.job }
         ensures writes { Writes self.old.job result (F.image flash.old) changes.now (F.image flash.new) self.new.job }
@@ -420,9 +420,9 @@ impl Settings {
         }
     }
 
-    /// Offers a waiting turn its next word, or its header after the last one.
+    /// Offers a waiting compaction its next word, or its header after the last one.
     fn offer_next<F: NorFlash>(&mut self, flash: &F, changes: &[Change], from: u32, at: usize)
-        requires stands { Stands (F.image flash.now) changes.now self.old }
+        requires refines { Relation (F.image flash.now) changes.now self.old }
         requires job { self.old.job ≡ Job.Turning from at }
         ensures { IsOffered (F.image flash.now) changes.now self.old self.new }
     {
@@ -439,7 +439,7 @@ impl Settings {
     }
 }
 
-/// A turn that was given the words of a change up to this one.
+/// A compaction that was given the words of a change up to this one.
 fn behind(change: &Change, at: usize) -> Job
     requires { at < length (words_of change.now) }
     ensures more { at + 1 < length (words_of change.now) → result ≡ Job.Turning change.now.id (at + 1) }

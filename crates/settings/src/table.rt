@@ -4,8 +4,8 @@ ghost use Rattle.std.specs.Prelude.{◌≡◌, ◌≢◌, ◌+◌, ◌<◌, ◌�
 ghost use Rattle.settings.specs.declared.change.Change.{Change};
 ghost use Rattle.settings.specs.Settings.{settings_of};
 ghost use Rattle.settings.specs.Table.{kept, Mirrors, MirrorsBut, ids_below};
-ghost use Rattle.settings.specs.ties.Table.{IsEntry, IsFree, end_of};
-ghost use Rattle.settings.specs.ties.Store.{StandsFor};
+ghost use Rattle.settings.specs.representation.Table.{IsEntry, IsFree, end_of};
+ghost use Rattle.settings.specs.representation.Store.{Refines};
 
 use crate::change::{Change, Value};
 use crate::lookup::IDS;
@@ -53,7 +53,7 @@ pub fn fill_table<F: NorFlash>(
     flash: &F,
     table: &mut [Change],
 ) -> Result<(), TableTooSmall>
-    requires { StandsFor (F.image flash.now) settings.now }
+    requires { Refines (F.image flash.now) settings.now }
     ensures length { length table.new ≡ length table.old }
     ensures mirrors { IsOk result → Mirrors (F.image flash.now) table.new }
     ensures fits { IsOk result ↔ (ids_below (settings_of (F.image flash.now)) (2 ^ 16) ≤ length table.old) }
@@ -75,7 +75,7 @@ pub fn fill_table<F: NorFlash>(
 /// The first id from one on that has a value, with it, or a free entry.
 fn entry_from<F: NorFlash>(settings: &Settings, flash: &F, from: u32) -> Change
     requires small { from ≤ 2 ^ 16 }
-    requires stands { StandsFor (F.image flash.now) settings.now }
+    requires refines { Refines (F.image flash.now) settings.now }
     ensures { IsEntry (settings_of (F.image flash.now)) from result }
 {
     if from < IDS {
@@ -105,7 +105,7 @@ pub fn refresh_table<F: NorFlash>(
     table: &mut [Change],
     id: u16,
 ) -> Result<(), TableTooSmall>
-    requires stands { StandsFor (F.image flash.now) settings.now }
+    requires refines { Refines (F.image flash.now) settings.now }
     requires others { MirrorsBut (F.image flash.now) id table.old }
     ensures length { length table.new ≡ length table.old }
     ensures others { MirrorsBut (F.image flash.now) id table.new }

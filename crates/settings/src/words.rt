@@ -1,7 +1,7 @@
 //! The words that a change is kept as.
 
 ghost use Rattle.std.specs.Prelude.{◌≡◌, ◌+◌, ◌<◌, ◌≤◌, ◌^◌, ◌↔◌, ◌/◌, Some, IsTrue, IfSome, length, slice_index};
-ghost use Rattle.settings.specs.ties.Reading.{IsLen};
+ghost use Rattle.settings.specs.representation.Reading.{IsLen};
 ghost use Rattle.settings.specs.Words.{is_data, head_of, word_bytes, is_known, words_of, words_with, data_word};
 
 use crate::change::{Change, Value};

@@ -1,4 +1,4 @@
--- Believed: what a list of numbers is a list of.
+-- Trusted: what a list of numbers is a list of.
 use Rattle.std.specs.Prelude.{ℕ, List}
 
 -- bytes: of a flash, a slot, a packet, a report, a descriptor, a text

@@ -1,4 +1,4 @@
--- Believed: bytes and numbers in hex, as they are printed.
+-- Trusted: bytes and numbers in hex, as they are printed.
 use Rattle.shapes.specs.Shapes.{Bytes}
 use Rattle.std.specs.Prelude.{ℕ, ◌/◌, ◌%◌, ◌^◌, false, [], ◌∷◌}
 use Rattle.std.specs.List.{flat_map}

@@ -1,4 +1,4 @@
--- Believed where this crate is called: what a printer has printed.
+-- Trusted where this crate is called: what a printer has printed.
 use Rattle.shapes.specs.Shapes.{Bytes}
 use Rattle.std.specs.Prelude.{◌≡◌, [], Option}
 use Rattle.std.specs.Borrow.{GName}

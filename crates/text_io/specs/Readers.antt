@@ -1,4 +1,4 @@
--- Believed where this crate is called: what comes of reading a whole text.
+-- Trusted where this crate is called: what comes of reading a whole text.
 use Rattle.shapes.specs.Shapes.{Bytes}
 use Rattle.std.specs.Prelude.{ℕ, ◌<◌, length, Option, IfSome, ⊤}
 use Rattle.text_io.specs.declared.fault.ReadError.{ReadError}

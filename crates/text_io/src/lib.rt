@@ -2,7 +2,7 @@
 //!
 //! [`read_whole`] ends at the first fault of its reader, and takes no more of it than it must. A [`Printer`] prints
 //! whatever shows itself, with [`HexDigits`] and [`HexWord`] among it, and hands it on in pieces of at most 4,096 bytes,
-//! or a longer piece of text as it is; its one promise is that the writer has, once the printer is finished, just what
+//! or a longer piece of text as it is; its one guarantee is that the writer has, once the printer is finished, just what
 //! was printed, in order. Both tell an interruption as a fault. The crates that read scripts and
 //! descriptors from any reader, and print lines to any writer, stand on it.
 #![tactic(auto)]

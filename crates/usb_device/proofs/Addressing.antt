@@ -1,4 +1,4 @@
--- The address of the controller: told, or set to 0 by a reset.
+-- The address of the controller: reported, or set to 0 by a reset.
 use Rattle.std.proofs.Common.{◌≡◌, ℕ, Bool, true, false, List, [], ◌∷◌, ◌++◌, append_assoc, Option, Some, None, refl, sym, ap, subst, ◌∙◌, inl, inr}
 use Rattle.usb_device.specs.Calls.{EpCall, SetUp, Out, In, Polled, BusReset}
 use Rattle.usb_device.specs.Addresses.{StaysBy, Stays, StaysOrReset, Tells, Addressed}
@@ -84,10 +84,10 @@ pub kept_or : (reset : Bool) (calls later : List EpCall) → KeptUnless reset ca
 kept_or true calls later k = inr k
 kept_or false calls later k = inl k
 
--- then the address is told, or nothing
-untold : (b next : Bus) (calls later : List EpCall) (x y z : ℕ) → (next ≡ b) × (z ≡ y) → StaysOrReset b.met.reset calls later x y
+-- then the address is reported, or nothing
+unreported : (b next : Bus) (calls later : List EpCall) (x y z : ℕ) → (next ≡ b) × (z ≡ y) → StaysOrReset b.met.reset calls later x y
     → StaysOrReset next.met.reset calls later x z
-untold b next calls later x y z (e, f) s =
+unreported b next calls later x y z (e, f) s =
     let P : Bus → Type 0 = λ c. StaysOrReset c.met.reset calls later x z in
     let Q : ℕ → Type 0 = λ n. StaysOrReset b.met.reset calls later x n in
     subst P (sym e) (subst Q (sym f) s)
@@ -95,5 +95,5 @@ untold b next calls later x y z (e, f) s =
 pub addressed : (done : Bool) (due : Option ℕ) (b next : Bus) (calls later : List EpCall) (x y z : ℕ) → Tells done due b next y z
     → StaysOrReset b.met.reset calls later x y → Addressed done due next.met.reset calls later x z
 addressed true (Some address) b next calls later x y z t s = t
-addressed true None b next calls later x y z t s = untold b next calls later x y z t s
-addressed false due b next calls later x y z t s = untold b next calls later x y z t s
+addressed true None b next calls later x y z t s = unreported b next calls later x y z t s
+addressed false due b next calls later x y z t s = unreported b next calls later x y z t s

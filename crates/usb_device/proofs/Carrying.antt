@@ -3,7 +3,7 @@ use Rattle.std.proofs.Common.{◌≡◌, ℕ, ◌+◌, Bool, true, false, not, L
 use Rattle.usb_device.specs.declared.answer.Endpoint1.{Endpoint1}
 use Rattle.usb_device.specs.Bus1.{Got, New, Anew, GivenUp, same, received, Sent, Reported, Changed, is_old, newest}
 use Rattle.usb_device.specs.Reports.{cut, packets_of, with_new, IsPacket, ArePieces, HasAnew, HasNew, MayRepeat, CarriesBy, Carries, Begun}
-use Rattle.usb_device.specs.ties.Link1.{copies, new_of, ArePackets}
+use Rattle.usb_device.specs.representation.Link1.{copies, new_of, ArePackets}
 
 pub true_false : true ≡ false → ⊥
 true_false e = cc

@@ -7,7 +7,7 @@ use Rattle.usb_device.specs.Confirmed.{asked_of}
 use Rattle.usb_device.specs.declared.answer.Endpoint1.{Endpoint1}
 use Rattle.usb_device.specs.Bus1.{Got, Anew, GivenUp, Sent, Changed, sent_of, is_old, newest, sets_protocol, given_up, Bus1, unless_reset, anew}
 use Rattle.usb_device.specs.Reports.{cut, count_of, packets_of, Carries, Begun}
-use Rattle.usb_device.specs.ties.Link1.{ReportState, is_begun, to_hand, copies, Agrees, Resting, Going, Now1, Link1}
+use Rattle.usb_device.specs.representation.Link1.{ReportState, is_begun, to_hand, copies, Agrees, Resting, Going, Now1, Link1}
 use Rattle.usb_device.proofs.Carrying.{true_false, marked_carries, any_carries, gives_up, newest_now, length-append, length-cut}
 
 -- the device begins anew
@@ -33,12 +33,12 @@ pub anew_now : (course : Course) (s : ReportState) (left : ℕ) (state : Endpoin
     → Now1 (anew_course course) (record s { course = anew_course course; unsure = true; lost = false; left = left }) (set_anew b state) calls
 unfolding anew_course set_anew anew_begun
 anew_now Rests s left state b calls k h = record {
-  free = record { empty = refl; told = refl; agrees = (refl, refl) };
+  free = record { empty = refl; reported = refl; agrees = (refl, refl) };
   carried = marked_carries state false s.size b.got (sent_of calls) h.carried;
   marked = λ _. tt;
 }
 anew_now Begins s left state b calls k h = record {
-  free = record { empty = refl; told = refl; agrees = (refl, refl) };
+  free = record { empty = refl; reported = refl; agrees = (refl, refl) };
   earlier = h.earlier;
   sent = h.sent;
   begun = anew_begun state s.size s.report b.got h.earlier h.begun;
@@ -46,7 +46,7 @@ anew_now Begins s left state b calls k h = record {
   marked = λ _. inl tt;
 }
 anew_now Goes s left state b calls k h = record {
-  free = record { empty = refl; told = refl; agrees = (refl, refl) };
+  free = record { empty = refl; reported = refl; agrees = (refl, refl) };
   earlier = h.earlier;
   sent = sym (newest_now (sent_of calls) (h.old ∙ k refl)) ∙ h.sent;
   begun = anew_begun state s.size s.report b.got h.earlier h.begun;
@@ -109,12 +109,12 @@ pub given_up_now : (course : Course) (s : ReportState) (b : Bus1) (calls later :
 unfolding set_given_up unsure_by
 given_up_now Rests s b calls later k o n h = absurd (k refl)
 given_up_now Begins s b calls later k o n h = record {
-  free = record { empty = refl; told = refl; agrees = given_up_agrees s.unsure s.lost b h.free.agrees };
+  free = record { empty = refl; reported = refl; agrees = given_up_agrees s.unsure s.lost b h.free.agrees };
   carried = gives_up s.size s.report (sent_of later) h.earlier b.got h.begun (o (λ x. (let y : Begins ≡ Goes = x in cc))) (n ∙ ap (λ x. newest x) h.sent);
   marked = λ _. tt;
 }
 given_up_now Goes s b calls later k o n h = record {
-  free = record { empty = refl; told = refl; agrees = λ x. absurd (true_false (sym x ∙ h.closed)) };
+  free = record { empty = refl; reported = refl; agrees = λ x. absurd (true_false (sym x ∙ h.closed)) };
   carried = gives_up s.size s.report (sent_of later) h.earlier b.got h.begun (o (λ _. h.old)) (n ∙ h.sent);
   marked = λ _. tt;
 }

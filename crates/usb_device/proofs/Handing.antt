@@ -5,7 +5,7 @@ use Rattle.usb_device.specs.declared.report_buffers.Course.TheVariants.{Rests, B
 use Rattle.usb_device.specs.Calls.{EpCall, Polled}
 use Rattle.usb_device.specs.Bus1.{Bus1, Reported, newest, is_old, blank, agree, Goes1, unless_reset, filled, room_of}
 use Rattle.usb_device.specs.Reports.{cut, count_of, packets_of, with_new, HasNew, Carries}
-use Rattle.usb_device.specs.ties.Link1.{may_send, IsHeld, NothingWithheld, all_handed, all_full, was_reset, has_none, ReportState, is_more, to_hand, copies, new_of, ArePackets, Agrees, Beginning, Going, Now1, Link1}
+use Rattle.usb_device.specs.representation.Link1.{may_send, IsHeld, NothingWithheld, all_handed, all_full, was_reset, has_none, ReportState, is_more, to_hand, copies, new_of, ArePackets, Agrees, Beginning, Going, Now1, Link1}
 use Rattle.usb_device.proofs.Carrying.{true_false, all_own, own-append, own_copies, snoc-append, snoc_some, snoc-length, length-append, length-cut, will}
 use Rattle.usb_device.proofs.Reporting.{goes1, lt_true, positive, lt_suc, bool_cases}
 
@@ -51,13 +51,13 @@ first_going s b calls packet rest due again e h =
     let O : List (List ℕ) → Type 0 = λ x. ArePackets s.size s.report x in
     let Q : List (List ℕ) → Type 0 = λ x. ArePackets s.size s.report ((x ++ packet ∷ []) ++ hand) in
     let L : List (List ℕ) → Type 0 = λ x. 1 ≡ length (x ++ packet ∷ []) + b.taken in
-    let told = h.free.told in
+    let reported = h.free.reported in
     let sure : s.unsure ≡ false → agree b ≡ true = λ x. agrees_sure s.unsure s.lost b h.free.agrees x in
     let xs = (b.slots ++ packet ∷ []) ++ hand in
     let E : List (List ℕ) → Type 0 = λ x. (x ++ packet ∷ []) ++ hand ≡ p ++ copies s.unsure p in
     let left : xs ≡ p ++ copies s.unsure p = subst E empty (sym e) in
     record {
-      counted = subst L empty (omega (arith, told));
+      counted = subst L empty (omega (arith, reported));
       closed = refl;
       sure = refl;
       earlier = h.earlier;

@@ -9,14 +9,14 @@ use Rattle.usb_device.specs.Events.{Event, SuspendCame, ResumeCame, WakeAsked}
 use Rattle.usb_device.specs.Requests.{Lent}
 use Rattle.usb_device.specs.Steps.{session}
 use Rattle.usb_device.specs.Through.{calls_of}
-use Rattle.usb_device.specs.ties.Layered.{PolledOnce}
-use Rattle.usb_device.specs.Bus1.{Got, Bus1, agree, received, Happens1, takes, loses, host_begins, resets1, Goes1, told, unless_reset, filled, given_up, anew, begun_if, with_host_anew, states_told, no_polls}
-use Rattle.usb_device.specs.ties.Link1.{ReportState, Link1, InStep}
+use Rattle.usb_device.specs.representation.Layered.{PolledOnce}
+use Rattle.usb_device.specs.Bus1.{Got, Bus1, agree, received, Happens1, takes, loses, host_begins, resets1, Goes1, reported, unless_reset, filled, given_up, anew, begun_if, with_host_anew, states_reported, no_polls}
+use Rattle.usb_device.specs.representation.Link1.{ReportState, Link1, InStep}
 use Rattle.usb_device.proofs.Carrying.{true_false}
 use Rattle.usb_device.proofs.Linked.{takes_as}
 use Rattle.usb_device.proofs.Reporting.{step1, goes1}
 
-received_states : (a : Bool) (packet : List ℕ) (got : List Got) → states_told (received a packet got) ≡ states_told got
+received_states : (a : Bool) (packet : List ℕ) (got : List Got) → states_reported (received a packet got) ≡ states_reported got
 received_states true packet got = refl
 received_states false packet got = refl
 
@@ -51,8 +51,8 @@ given_up_in_step steps states b mid new g e h =
     let m = goes_in_step steps states b mid g h in
     subst P (sym e) (unless_in_step mid.reset states states mid _ refl m (λ _. m))
 
-pub told_in_step : (steps : List Bus1) (states : List Endpoint1) (b mid new : Bus1) → Goes1 steps b mid → new ≡ told mid → InStep states b → InStep states new
-told_in_step steps states b mid new g e h =
+pub reported_in_step : (steps : List Bus1) (states : List Endpoint1) (b mid new : Bus1) → Goes1 steps b mid → new ≡ reported mid → InStep states b → InStep states new
+reported_in_step steps states b mid new g e h =
     let P : Bus1 → Type 0 = λ x. InStep states x in subst P (sym e) (goes_in_step steps states b mid g h)
 
 pub anew_in_step : (steps : List Bus1) (states : List Endpoint1) (state : Endpoint1) (b mid new : Bus1) → Goes1 steps b mid → new ≡ anew mid state

@@ -6,7 +6,7 @@ use Rattle.usb_device.specs.Calls.{EpCall, SetUp, Out, In, Polled, BusReset}
 use Rattle.usb_device.specs.Bus.{Bus, Seen, SetupSent, OutTaken, InGot, WasStalled, WasReset, InMode, Naks, Sends, OutMode, NaksOut, Takes, nothing_met, Happens, sets_up, takes_in, loses_ack, brings_out, stalls, resets, Goes, is_pending, is_out, is_write, setup_of, write_of, has_ended, got, with_taken, with_ack_lost, with_out, with_stall, first_out}
 use Rattle.usb_device.specs.Confirmed.{asked_of, WasSent, TakesOnly, ConfirmedBefore, AllKept, three_writes, last_is_lost}
 use Rattle.usb_device.specs.Transfers.{TransferState, Idle, Refused, Over, Reads, ReadDue, Sent, Closing, Closed, Opening, Writes, Keeps, Asking, Due, Status, Done}
-use Rattle.usb_device.specs.ties.Link.{IsQuiet, IsClosed, ClosedIf, IsSame, ConfirmsIf, StageLink, Link}
+use Rattle.usb_device.specs.representation.Link.{IsQuiet, IsClosed, ClosedIf, IsSame, ConfirmsIf, StageLink, Link}
 
 or_true : (x : Bool) → (x || true) ≡ false → ⊥
 or_true true e = cc

@@ -6,22 +6,22 @@ use Rattle.usb_device.specs.declared.guard.Guard.{Guard}
 use Rattle.usb_device.specs.declared.guarded.Guarded.{Guarded}
 use Rattle.usb_device.specs.Calls.{EpCall, SetUp, Out, In, Polled, BusReset}
 use Rattle.usb_device.specs.Guarding.{GuardCall, Met, Locked, Scanned, calls_met, is_feature, writes, is_command, is_locked, is_refused, scans_since, zero_if, Passage, Refuses, Waits, Passes, passage_by, passage, passed, DeviceCall, Serves, SetsLock, Else, Brings, AllBring}
-use Rattle.usb_device.specs.ties.Guarded.{guard_of, is_taken, left_by, Guards, Went}
+use Rattle.usb_device.specs.representation.Guarded.{guard_of, is_taken, left_by, Guards, Went}
 
-abbrev pub Stands : Type 0 → Type 1
-Stands E = List EpCall → E → Type 0
+abbrev pub Relation : Type 0 → Type 1
+Relation E = List EpCall → E → Type 0
 
-pub begun : {E : Type 0} (stands : Stands E) (pace : ℕ) (behind : E) → stands [] behind
-    → Guards stands pace [] (record { pace = pace; locked = false; feature = false; refused = false; left = pace }) behind
+pub begun : {E : Type 0} (refines : Relation E) (pace : ℕ) (behind : E) → refines [] behind
+    → Guards refines pace [] (record { pace = pace; locked = false; feature = false; refused = false; left = pace }) behind
 unfolding guard_of is_refused scans_since passed
-begun stands pace behind s =
+begun refines pace behind s =
     let all : pace ≡ pace - 0 = omega arith in
     record { answered = tt; kept = ap (λ (x : ℕ). record { pace = pace; locked = false; feature = false; refused = false; left = x }) all; session = s }
 
-pub on_lock : {E : Type 0} (stands : Stands E) (pace : ℕ) (past : List GuardCall) (on : Bool) (guard next : Guard) (behind : E) → next ≡ record guard { locked = on }
-    → Guards stands pace past guard behind → Guards stands pace (Locked on ∷ past) next behind
+pub on_lock : {E : Type 0} (refines : Relation E) (pace : ℕ) (past : List GuardCall) (on : Bool) (guard next : Guard) (behind : E) → next ≡ record guard { locked = on }
+    → Guards refines pace past guard behind → Guards refines pace (Locked on ∷ past) next behind
 unfolding guard_of is_refused scans_since passed
-on_lock stands pace past on guard next behind n g = record {
+on_lock refines pace past on guard next behind n g = record {
   answered = (tt, g.answered);
   kept = n ∙ ap (λ (x : Guard). record x { locked = on }) g.kept;
   session = g.session;
@@ -30,52 +30,52 @@ on_lock stands pace past on guard next behind n g = record {
 less : (pace count : ℕ) → pace - count - 1 ≡ pace - (count + 1)
 less pace count = omega arith
 
-pub on_scan : {E : Type 0} (stands : Stands E) (pace : ℕ) (past : List GuardCall) (guard next : Guard) (behind new : E) → next ≡ record guard { left = guard.left - 1 }
-    → (stands (passed pace past) behind → stands (passed pace past) new) → Guards stands pace past guard behind → Guards stands pace (Scanned ∷ past) next new
+pub on_scan : {E : Type 0} (refines : Relation E) (pace : ℕ) (past : List GuardCall) (guard next : Guard) (behind new : E) → next ≡ record guard { left = guard.left - 1 }
+    → (refines (passed pace past) behind → refines (passed pace past) new) → Guards refines pace past guard behind → Guards refines pace (Scanned ∷ past) next new
 unfolding guard_of is_refused scans_since passed
-on_scan stands pace past guard next behind new n s g = record {
+on_scan refines pace past guard next behind new n s g = record {
   answered = (tt, g.answered);
   kept = n ∙ ap (λ (x : Guard). record x { left = x.left - 1 }) g.kept ∙ ap (λ (x : ℕ). record (guard_of pace past) { left = x }) (less pace (scans_since past));
   session = s g.session;
 }
 
-pub on_setup : {E : Type 0} (stands : Stands E) (pace : ℕ) (past : List GuardCall) (bytes : List ℕ) (guard next : Guard) (behind new : E)
+pub on_setup : {E : Type 0} (refines : Relation E) (pace : ℕ) (past : List GuardCall) (bytes : List ℕ) (guard next : Guard) (behind new : E)
     → next ≡ record guard { feature = is_feature (Some bytes); refused = false }
-    → (stands (passed pace past) behind → stands (SetUp bytes ∷ passed pace past) new) → Guards stands pace past guard behind → Guards stands pace (Met (SetUp bytes) ∷ past) next new
+    → (refines (passed pace past) behind → refines (SetUp bytes ∷ passed pace past) new) → Guards refines pace past guard behind → Guards refines pace (Met (SetUp bytes) ∷ past) next new
 unfolding guard_of is_refused scans_since passed
-on_setup stands pace past bytes guard next behind new n s g = record {
+on_setup refines pace past bytes guard next behind new n s g = record {
   answered = (tt, g.answered);
   kept = n ∙ ap (λ (x : Guard). record x { feature = is_feature (Some bytes); refused = false }) g.kept;
   session = s g.session;
 }
 
-pub on_reset : {E : Type 0} (stands : Stands E) (pace : ℕ) (past : List GuardCall) (guard next : Guard) (behind new : E) → next ≡ record guard { feature = false; refused = false }
-    → (stands (passed pace past) behind → stands (BusReset ∷ passed pace past) new) → Guards stands pace past guard behind → Guards stands pace (Met BusReset ∷ past) next new
+pub on_reset : {E : Type 0} (refines : Relation E) (pace : ℕ) (past : List GuardCall) (guard next : Guard) (behind new : E) → next ≡ record guard { feature = false; refused = false }
+    → (refines (passed pace past) behind → refines (BusReset ∷ passed pace past) new) → Guards refines pace past guard behind → Guards refines pace (Met BusReset ∷ past) next new
 unfolding guard_of is_refused scans_since passed
-on_reset stands pace past guard next behind new n s g = record {
+on_reset refines pace past guard next behind new n s g = record {
   answered = (tt, g.answered);
   kept = n ∙ ap (λ (x : Guard). record x { feature = false; refused = false }) g.kept;
   session = s g.session;
 }
 
-pub on_poll : {E : Type 0} (stands : Stands E) (pace : ℕ) (past : List GuardCall) (answer : Option (List ℕ)) (guard : Guard) (behind new : E)
-    → (stands (passed pace past) behind → stands (Polled answer ∷ passed pace past) new) → Guards stands pace past guard behind → Guards stands pace (Met (Polled answer) ∷ past) guard new
+pub on_poll : {E : Type 0} (refines : Relation E) (pace : ℕ) (past : List GuardCall) (answer : Option (List ℕ)) (guard : Guard) (behind new : E)
+    → (refines (passed pace past) behind → refines (Polled answer ∷ passed pace past) new) → Guards refines pace past guard behind → Guards refines pace (Met (Polled answer) ∷ past) guard new
 unfolding guard_of is_refused scans_since passed
-on_poll stands pace past answer guard behind new s g = record { answered = (tt, g.answered); kept = g.kept; session = s g.session }
+on_poll refines pace past answer guard behind new s g = record { answered = (tt, g.answered); kept = g.kept; session = s g.session }
 
-pub on_work : {E : Type 0} (stands : Stands E) (pace : ℕ) (past : List GuardCall) (guard : Guard) (behind new : E)
-    → (stands (passed pace past) behind → stands (passed pace past) new) → Guards stands pace past guard behind → Guards stands pace past guard new
-on_work stands pace past guard behind new s g = record { answered = g.answered; kept = g.kept; session = s g.session }
+pub on_work : {E : Type 0} (refines : Relation E) (pace : ℕ) (past : List GuardCall) (guard : Guard) (behind new : E)
+    → (refines (passed pace past) behind → refines (passed pace past) new) → Guards refines pace past guard behind → Guards refines pace past guard new
+on_work refines pace past guard behind new s g = record { answered = g.answered; kept = g.kept; session = s g.session }
 
 refused_is : (pace : ℕ) (past : List GuardCall) (guard : Guard) → guard ≡ guard_of pace past → guard.refused ≡ is_refused past
 unfolding guard_of
 refused_is pace past guard k = ap (λ (x : Guard). x.refused) k
 
 -- an IN token of a transfer that is the guard's own
-pub on_in_refused : {E : Type 0} (stands : Stands E) (pace : ℕ) (past : List GuardCall) (guard : Guard) (behind : E) → guard.refused ≡ true
-    → Guards stands pace past guard behind → Guards stands pace (Met (In Stall) ∷ past) guard behind
+pub on_in_refused : {E : Type 0} (refines : Relation E) (pace : ℕ) (past : List GuardCall) (guard : Guard) (behind : E) → guard.refused ≡ true
+    → Guards refines pace past guard behind → Guards refines pace (Met (In Stall) ∷ past) guard behind
 unfolding guard_of is_refused scans_since passed
-on_in_refused stands pace past guard behind r g =
+on_in_refused refines pace past guard behind r g =
     let b : is_refused past ≡ true = sym (refused_is pace past guard g.kept) ∙ r in
     record {
       answered = (rw b refl, g.answered);
@@ -83,10 +83,10 @@ on_in_refused stands pace past guard behind r g =
       session = rw b g.session;
     }
 
-pub on_in : {E : Type 0} (stands : Stands E) (pace : ℕ) (past : List GuardCall) (answer : EpAnswer) (guard : Guard) (behind new : E) → guard.refused ≡ false
-    → (stands (passed pace past) behind → stands (In answer ∷ passed pace past) new) → Guards stands pace past guard behind → Guards stands pace (Met (In answer) ∷ past) guard new
+pub on_in : {E : Type 0} (refines : Relation E) (pace : ℕ) (past : List GuardCall) (answer : EpAnswer) (guard : Guard) (behind new : E) → guard.refused ≡ false
+    → (refines (passed pace past) behind → refines (In answer ∷ passed pace past) new) → Guards refines pace past guard behind → Guards refines pace (Met (In answer) ∷ past) guard new
 unfolding guard_of is_refused scans_since passed
-on_in stands pace past answer guard behind new r s g =
+on_in refines pace past answer guard behind new r s g =
     let b : is_refused past ≡ false = sym (refused_is pace past guard g.kept) ∙ r in
     record {
       answered = (rw b tt, g.answered);
@@ -128,10 +128,10 @@ neither : (b c : Bool) → (b || c) ≡ false → (b || c) ≡ b
 neither true c e = cc
 neither false c e = e
 
-pub on_out_refused : {E : Type 0} (stands : Stands E) (pace : ℕ) (past : List GuardCall) (packet : List ℕ) (guard next : Guard) (behind : E) → by guard packet ≡ Refuses → next ≡ record guard { refused = true }
-    → Guards stands pace past guard behind → Guards stands pace (Met (Out packet Stall) ∷ past) next behind
+pub on_out_refused : {E : Type 0} (refines : Relation E) (pace : ℕ) (past : List GuardCall) (packet : List ℕ) (guard next : Guard) (behind : E) → by guard packet ≡ Refuses → next ≡ record guard { refused = true }
+    → Guards refines pace past guard behind → Guards refines pace (Met (Out packet Stall) ∷ past) next behind
 unfolding guard_of is_refused scans_since passed passage
-on_out_refused stands pace past packet guard next behind p n g =
+on_out_refused refines pace past packet guard next behind p n g =
     let q : passage pace past packet ≡ Refuses = sym (passage_is pace past packet guard g.kept) ∙ p in
     let b : Bool = is_refused past || (is_locked past && is_command (calls_met past) packet) in
     let w : Bool = is_command (calls_met past) packet && nat_lt (scans_since past) pace in
@@ -141,10 +141,10 @@ on_out_refused stands pace past packet guard next behind p n g =
       session = rw q g.session;
     }
 
-pub on_out_waits : {E : Type 0} (stands : Stands E) (pace : ℕ) (past : List GuardCall) (packet : List ℕ) (guard : Guard) (behind : E) → by guard packet ≡ Waits
-    → Guards stands pace past guard behind → Guards stands pace (Met (Out packet Nak) ∷ past) guard behind
+pub on_out_waits : {E : Type 0} (refines : Relation E) (pace : ℕ) (past : List GuardCall) (packet : List ℕ) (guard : Guard) (behind : E) → by guard packet ≡ Waits
+    → Guards refines pace past guard behind → Guards refines pace (Met (Out packet Nak) ∷ past) guard behind
 unfolding guard_of is_refused scans_since passed passage
-on_out_waits stands pace past packet guard behind p g =
+on_out_waits refines pace past packet guard behind p g =
     let q : passage pace past packet ≡ Waits = sym (passage_is pace past packet guard g.kept) ∙ p in
     let b : Bool = is_refused past || (is_locked past && is_command (calls_met past) packet) in
     let w : Bool = is_command (calls_met past) packet && nat_lt (scans_since past) pace in
@@ -165,11 +165,11 @@ since_out past packet Nak = refl
 since_out past packet (Packet bytes) = refl
 since_out past packet Stall = refl
 
-pub on_out : {E : Type 0} (stands : Stands E) (pace : ℕ) (past : List GuardCall) (packet : List ℕ) (answer : EpAnswer) (guard next : Guard) (behind new : E) → by guard packet ≡ Passes
+pub on_out : {E : Type 0} (refines : Relation E) (pace : ℕ) (past : List GuardCall) (packet : List ℕ) (answer : EpAnswer) (guard next : Guard) (behind new : E) → by guard packet ≡ Passes
     → next ≡ record guard { left = left_by (is_taken answer && (guard.feature && writes packet)) guard.pace guard.left }
-    → (stands (passed pace past) behind → stands (Out packet answer ∷ passed pace past) new) → Guards stands pace past guard behind → Guards stands pace (Met (Out packet answer) ∷ past) next new
+    → (refines (passed pace past) behind → refines (Out packet answer ∷ passed pace past) new) → Guards refines pace past guard behind → Guards refines pace (Met (Out packet answer) ∷ past) next new
 unfolding guard_of is_refused passed passage is_command
-on_out stands pace past packet answer guard next behind new p n s g =
+on_out refines pace past packet answer guard next behind new p n s g =
     let q : passage pace past packet ≡ Passes = sym (passage_is pace past packet guard g.kept) ∙ p in
     let b : Bool = is_refused past || (is_locked past && is_command (calls_met past) packet) in
     let w : Bool = is_command (calls_met past) packet && nat_lt (scans_since past) pace in
@@ -184,33 +184,33 @@ on_out stands pace past packet answer guard next behind new p n s g =
 
 -- ---- from one moment to another
 
-abbrev pub Told : {E : Type 0} → Stands E → EpCall → Guarded E → Guarded E → Type 0
-Told stands call old new = (pace : ℕ) (past : List GuardCall) → Guards stands pace past old.guard old.behind → Guards stands pace (Met call ∷ past) new.guard new.behind
+abbrev pub GoesOn : {E : Type 0} → Relation E → EpCall → Guarded E → Guarded E → Type 0
+GoesOn refines call old new = (pace : ℕ) (past : List GuardCall) → Guards refines pace past old.guard old.behind → Guards refines pace (Met call ∷ past) new.guard new.behind
 
--- a call of the bus, told for any past, goes on from any moment
-pub goes_on : {E : Type 0} (stands : Stands E) (call : EpCall) (old new : Guarded E) → Told stands call old new
-    → (from : Guarded E) → Went stands (Brings Serves) from old → Went stands (Brings Serves) from new
-goes_on stands call old new t from k = λ pace past s. let a = k pace past s in (Met call ∷ a.0, a.1, t pace (a.0 ++ past) a.2)
+-- a call of the bus, reported for any past, goes on from any moment
+pub goes_on : {E : Type 0} (refines : Relation E) (call : EpCall) (old new : Guarded E) → GoesOn refines call old new
+    → (from : Guarded E) → Went refines (Brings Serves) from old → Went refines (Brings Serves) from new
+goes_on refines call old new t from k = λ pace past s. let a = k pace past s in (Met call ∷ a.0, a.1, t pace (a.0 ++ past) a.2)
 
-pub served : {E : Type 0} (stands : Stands E) (old now : Guarded E) → ((from : Guarded E) → Went stands (Brings Serves) from old → Went stands (Brings Serves) from now)
-    → Went stands (Brings Serves) old now
-served stands old now k = k old (λ pace past g. ([], tt, g))
+pub served : {E : Type 0} (refines : Relation E) (old now : Guarded E) → ((from : Guarded E) → Went refines (Brings Serves) from old → Went refines (Brings Serves) from now)
+    → Went refines (Brings Serves) old now
+served refines old now k = k old (λ pace past g. ([], tt, g))
 
-pub begins : {E : Type 0} (stands : Stands E) (g : Guarded E) → Went stands (AllBring []) g g
-begins stands g = λ pace past s. ([], refl, s)
+pub begins : {E : Type 0} (refines : Relation E) (g : Guarded E) → Went refines (AllBring []) g g
+begins refines g = λ pace past s. ([], refl, s)
 
-pub rested : {E : Type 0} (stands : Stands E) (old now : Guarded E) → now ≡ old → Went stands (Brings Else) old now
-rested stands old now e = λ pace past s. ([], refl, subst (λ (x : Guarded _). Guards stands pace past x.guard x.behind) (sym e) s)
+pub rested : {E : Type 0} (refines : Relation E) (old now : Guarded E) → now ≡ old → Went refines (Brings Else) old now
+rested refines old now e = λ pace past s. ([], refl, subst (λ (x : Guarded _). Guards refines pace past x.guard x.behind) (sym e) s)
 
-pub told_lock : {E : Type 0} (stands : Stands E) (on : Bool) (old now : Guarded E)
-    → ((pace : ℕ) (past : List GuardCall) → Guards stands pace past old.guard old.behind → Guards stands pace (Locked on ∷ past) now.guard now.behind)
-    → Went stands (Brings (SetsLock on)) old now
-told_lock stands on old now t = λ pace past s. (Locked on ∷ [], refl, t pace past s)
+pub reported_lock : {E : Type 0} (refines : Relation E) (on : Bool) (old now : Guarded E)
+    → ((pace : ℕ) (past : List GuardCall) → Guards refines pace past old.guard old.behind → Guards refines pace (Locked on ∷ past) now.guard now.behind)
+    → Went refines (Brings (SetsLock on)) old now
+reported_lock refines on old now t = λ pace past s. (Locked on ∷ [], refl, t pace past s)
 
-pub went_on : {E : Type 0} (stands : Stands E) (call : DeviceCall) (calls : List DeviceCall) (from old now : Guarded E)
-    → Went stands (AllBring calls) from old → Went stands (Brings call) old now → Went stands (AllBring (call ∷ calls)) from now
-went_on stands call calls from old now h k = λ pace past s.
+pub went_on : {E : Type 0} (refines : Relation E) (call : DeviceCall) (calls : List DeviceCall) (from old now : Guarded E)
+    → Went refines (AllBring calls) from old → Went refines (Brings call) old now → Went refines (AllBring (call ∷ calls)) from now
+went_on refines call calls from old now h k = λ pace past s.
     let a = h pace past s in
     let b = k pace (a.0 ++ past) a.2 in
-    let G : List GuardCall → Type 0 = λ x. Guards stands pace x now.guard now.behind in
+    let G : List GuardCall → Type 0 = λ x. Guards refines pace x now.guard now.behind in
     (b.0 ++ a.0, (b.0, a.0, b.1, a.1, refl), subst G (sym (append_assoc b.0 a.0 past)) b.2)

@@ -7,7 +7,7 @@ use Rattle.usb_device.specs.Bus.{Bus, Met, Seen, InGot, InMode, Naks, Sends, Sta
 use Rattle.usb_device.specs.Bus1.{KeptUnless}
 use Rattle.usb_device.specs.Confirmed.{asked_of, TakesOnly, WasSent, AllKept}
 use Rattle.usb_device.specs.Transfers.{TransferState, Idle, Refused, Over, Reads, ReadDue, Sent, Closing, Closed, Opening, Writes, Keeps, Asking, Due, Status, Done}
-use Rattle.usb_device.specs.ties.Link.{IsQuiet, IsClosed, ClosedIf, ConfirmsIf, StageLink, HasNoData, Link}
+use Rattle.usb_device.specs.representation.Link.{IsQuiet, IsClosed, ClosedIf, ConfirmsIf, StageLink, HasNoData, Link}
 use Rattle.usb_device.proofs.Linked.{goes, sent_since}
 
 abbrev set_to : Bus → InMode → OutMode → Bus

@@ -3,7 +3,7 @@ use Rattle.std.proofs.Common.{◌≡◌, ℕ, Bool, true, false, List, [], ◌�
 use Rattle.usb_device.specs.declared.controller.Input.{Input}
 use Rattle.usb_device.specs.declared.controller.Input.TheVariants as Inputs
 use Rattle.usb_device.specs.Bus.{Bus, Seen, SetupSent, OutTaken, WasReset, InMode, Naks, Sends, NaksOut, Takes, got, mode_of, sets_up, takes_in, loses_ack, brings_out, resets}
-use Rattle.usb_device.specs.ties.Played0.{Moved0, mode_by, address_by}
+use Rattle.usb_device.specs.representation.Played0.{Moved0, mode_by, address_by}
 use Rattle.usb_device.specs.Addresses.{StaysBy}
 
 pub fresh_mode : (answer : Input) → mode_by answer false ≡ mode_of answer
@@ -67,6 +67,6 @@ address_looked m true x y z e s a b = absurd (let t : true ≡ false = e in cc)
 address_looked true false x y z e s a b = a refl
 address_looked false false x y z e s a b = b refl ∙ s
 
-pub address_told : (r : Bool) (a b : ℕ) → (r ≡ true → b ≡ 0) → (r ≡ false → b ≡ a) → StaysBy r a (address_by r b)
-address_told true a b f g = refl
-address_told false a b f g = g refl
+pub address_reported : (r : Bool) (a b : ℕ) → (r ≡ true → b ≡ 0) → (r ≡ false → b ≡ a) → StaysBy r a (address_by r b)
+address_reported true a b f g = refl
+address_reported false a b f g = g refl

@@ -8,7 +8,7 @@ use Rattle.usb_device.specs.declared.whole_transfers.TransferError.TheVariants.{
 use Rattle.usb_device.specs.Calls.{EpCall, SetUp, Out}
 use Rattle.usb_device.specs.Requests.{word_at}
 use Rattle.usb_device.specs.WholeReads.{joined, is_last, IsNoPacket, IsRead, no_packet, not_closed, FailsToRead}
-use Rattle.usb_device.specs.ties.WholeReads.{Receives, NotReceived}
+use Rattle.usb_device.specs.representation.WholeReads.{Receives, NotReceived}
 
 pub last_short : (asked : ℕ) (packet : List ℕ) (before : List (List ℕ)) → length packet < 8 → is_last asked packet before ≡ true
 last_short asked packet before l = grind (arith, l)

@@ -4,9 +4,9 @@ use Rattle.usb_device.specs.declared.report_buffers.Course.{Course}
 use Rattle.usb_device.specs.declared.report_buffers.Course.TheVariants.{Rests, Begins, Goes}
 use Rattle.usb_device.specs.Calls.{EpCall, SetUp, Polled}
 use Rattle.usb_device.specs.Confirmed.{asked_of}
-use Rattle.usb_device.specs.Bus1.{Got, Sent, Reported, sent_of, is_old, newest, sets_protocol, Bus1, blank, same, agree, received, with_taken1, with_lost1, with_host_anew, Happens1, takes, loses, host_begins, resets1, Goes1, told}
+use Rattle.usb_device.specs.Bus1.{Got, Sent, Reported, sent_of, is_old, newest, sets_protocol, Bus1, blank, same, agree, received, with_taken1, with_lost1, with_host_anew, Happens1, takes, loses, host_begins, resets1, Goes1, reported}
 use Rattle.usb_device.specs.Reports.{cut, HasNew, packets_of, with_new, Carries, GotInOrder, all, but_one}
-use Rattle.usb_device.specs.ties.Link1.{ReportState, is_more, is_over, to_hand, copies, new_of, ArePackets, Agrees, Free, Resting, Beginning, Going, Now1, Link1}
+use Rattle.usb_device.specs.representation.Link1.{ReportState, is_more, is_over, to_hand, copies, new_of, ArePackets, Agrees, Free, Resting, Beginning, Going, Now1, Link1}
 use Rattle.usb_device.proofs.Carrying.{true_false, newest_carries, received_has, received_begun, received_will, same_self, same_not}
 
 -- a packet is with the host
@@ -76,7 +76,7 @@ host_agrees true false b o a = a
 host_agrees false lost b o a = let S : Bool → Type 0 = λ x. same false x ≡ true in (subst S (sym (a.1 o)) refl, a.1)
 
 pub host_free : (unsure lost : Bool) (b : Bus1) → b.opened ≡ true → Free unsure lost b → Free unsure lost (with_host_anew b)
-host_free unsure lost b o f = record { empty = f.empty; told = f.told; agrees = host_agrees unsure lost b o f.agrees }
+host_free unsure lost b o f = record { empty = f.empty; reported = f.reported; agrees = host_agrees unsure lost b o f.agrees }
 
 pub host_now : (course : Course) (s : ReportState) (b : Bus1) (calls : List EpCall) → b.opened ≡ true → Now1 course s b calls → Now1 course s (with_host_anew b) calls
 host_now Rests s b calls o h = record { free = host_free s.unsure s.lost b o h.free; carried = h.carried; marked = h.marked }
@@ -219,7 +219,7 @@ sure_agrees true false b l k a =
 sure_agrees false lost b l k a = a
 
 pub sure_free : (unsure lost : Bool) (b : Bus1) → lost ≡ false → (b.opened ≡ true → b.host ≡ false) → Free unsure lost b → Free false lost b
-sure_free unsure lost b l k f = record { empty = f.empty; told = f.told; agrees = sure_agrees unsure lost b l k f.agrees }
+sure_free unsure lost b l k f = record { empty = f.empty; reported = f.reported; agrees = sure_agrees unsure lost b l k f.agrees }
 
 pub sure_now : (course : Course) (s : ReportState) (left : ℕ) (b : Bus1) (calls : List EpCall) → s.lost ≡ false → (b.opened ≡ true → b.host ≡ false) → Now1 course s b calls
     → Now1 course (record s { unsure = false; left = left }) b calls
@@ -297,11 +297,11 @@ in_order_now Goes s b calls h = but_one s.report h.earlier h.sent h.begun (λ o.
 pub in_order : (s : ReportState) (b : Bus1) (calls : List EpCall) → b.reset ≡ false → Link1 s b calls → GotInOrder s.size b.got (sent_of calls)
 in_order s b calls r h = in_order_now s.course s b calls (h.current r)
 
--- what was taken is told
-pub told_agrees : (unsure lost : Bool) (b : Bus1) → Agrees unsure lost b → Agrees unsure lost (told b)
-told_agrees true true b a = a
-told_agrees true false b a = a
-told_agrees false lost b a = a
+-- what was taken is reported
+pub reported_agrees : (unsure lost : Bool) (b : Bus1) → Agrees unsure lost b → Agrees unsure lost (reported b)
+reported_agrees true true b a = a
+reported_agrees true false b a = a
+reported_agrees false lost b a = a
 
 pub lt_true : {n : ℕ} → 0 < n → nat_lt 0 n ≡ true
 lt_true {n} e = grind (arith, e)
@@ -309,12 +309,12 @@ lt_true {n} e = grind (arith, e)
 pub positive : (n : ℕ) → nat_lt 0 (n + 1) ≡ true
 positive n = grind arith
 
-pub told_rest : (s : ReportState) (count : ℕ) (b : Bus1) (calls : List EpCall) → Resting s b calls → Resting (record s { buffered = count }) (told b) calls
-told_rest s count b calls h = record { free = record { empty = h.free.empty; told = refl; agrees = told_agrees s.unsure s.lost b h.free.agrees }; carried = h.carried; marked = h.marked }
+pub reported_rest : (s : ReportState) (count : ℕ) (b : Bus1) (calls : List EpCall) → Resting s b calls → Resting (record s { buffered = count }) (reported b) calls
+reported_rest s count b calls h = record { free = record { empty = h.free.empty; reported = refl; agrees = reported_agrees s.unsure s.lost b h.free.agrees }; carried = h.carried; marked = h.marked }
 
-pub told_begin : (s : ReportState) (count : ℕ) (b : Bus1) (calls : List EpCall) → Beginning s b calls → Beginning (record s { buffered = count }) (told b) calls
-told_begin s count b calls h = record {
-  free = record { empty = h.free.empty; told = refl; agrees = told_agrees s.unsure s.lost b h.free.agrees };
+pub reported_begin : (s : ReportState) (count : ℕ) (b : Bus1) (calls : List EpCall) → Beginning s b calls → Beginning (record s { buffered = count }) (reported b) calls
+reported_begin s count b calls h = record {
+  free = record { empty = h.free.empty; reported = refl; agrees = reported_agrees s.unsure s.lost b h.free.agrees };
   earlier = h.earlier;
   sent = h.sent;
   begun = h.begun;
@@ -323,18 +323,18 @@ told_begin s count b calls h = record {
 }
 
 pub taken_rests : (s : ReportState) (count : ℕ) (b : Bus1) (calls : List EpCall) → s.course ≡ Rests → Link1 s b calls
-    → Link1 (record s { buffered = count }) (told b) calls
+    → Link1 (record s { buffered = count }) (reported b) calls
 taken_rests s count b calls e h =
     let N : Course → Type 0 = λ x. Now1 x s b calls in
-    let M : Course → Type 0 = λ x. Now1 x (record s { buffered = count }) (told b) calls in
-    record { asked = h.asked; fresh = λ x. ap (λ y. told y) (h.fresh x); current = λ r. subst M (sym e) (told_rest s count b calls (subst N e (h.current r))) }
+    let M : Course → Type 0 = λ x. Now1 x (record s { buffered = count }) (reported b) calls in
+    record { asked = h.asked; fresh = λ x. ap (λ y. reported y) (h.fresh x); current = λ r. subst M (sym e) (reported_rest s count b calls (subst N e (h.current r))) }
 
 pub taken_begins : (s : ReportState) (count : ℕ) (b : Bus1) (calls : List EpCall) → s.course ≡ Begins → Link1 s b calls
-    → Link1 (record s { buffered = count }) (told b) calls
+    → Link1 (record s { buffered = count }) (reported b) calls
 taken_begins s count b calls e h =
     let N : Course → Type 0 = λ x. Now1 x s b calls in
-    let M : Course → Type 0 = λ x. Now1 x (record s { buffered = count }) (told b) calls in
-    record { asked = h.asked; fresh = λ x. ap (λ y. told y) (h.fresh x); current = λ r. subst M (sym e) (told_begin s count b calls (subst N e (h.current r))) }
+    let M : Course → Type 0 = λ x. Now1 x (record s { buffered = count }) (reported b) calls in
+    record { asked = h.asked; fresh = λ x. ap (λ y. reported y) (h.fresh x); current = λ r. subst M (sym e) (reported_begin s count b calls (subst N e (h.current r))) }
 
 pub lt_suc : (n : ℕ) → nat_lt 0 (suc n) ≡ true
 lt_suc n = grind arith
@@ -395,9 +395,9 @@ pub no_length : {A : Type 0} (xs : List A) → length xs ≡ 0 → xs ≡ []
 no_length [] e = refl
 no_length (x ∷ xs) e = cc
 
-pub told_goes : (s : ReportState) (n count : ℕ) (b : Bus1) (calls : List EpCall) → n ≡ s.buffered - count → b.taken ≡ count
-    → is_over (record s { buffered = n }) ≡ false → Going s b calls → Going (record s { buffered = n }) (told b) calls
-told_goes s n count b calls m t o g =
+pub reported_goes : (s : ReportState) (n count : ℕ) (b : Bus1) (calls : List EpCall) → n ≡ s.buffered - count → b.taken ≡ count
+    → is_over (record s { buffered = n }) ≡ false → Going s b calls → Going (record s { buffered = n }) (reported b) calls
+reported_goes s n count b calls m t o g =
     let counted = g.counted in
     record {
       counted = omega (arith, counted, t, m);
@@ -417,23 +417,23 @@ told_goes s n count b calls m t o g =
     }
 
 pub taken_goes : (s : ReportState) (n count : ℕ) (b : Bus1) (calls : List EpCall) → n ≡ s.buffered - count → s.course ≡ Goes → b.taken ≡ count
-    → is_over (record s { buffered = n }) ≡ false → Link1 s b calls → Link1 (record s { buffered = n }) (told b) calls
+    → is_over (record s { buffered = n }) ≡ false → Link1 s b calls → Link1 (record s { buffered = n }) (reported b) calls
 taken_goes s n count b calls m e t o h =
     let N : Course → Type 0 = λ x. Now1 x s b calls in
-    let M : Course → Type 0 = λ x. Now1 x (record s { buffered = n }) (told b) calls in
+    let M : Course → Type 0 = λ x. Now1 x (record s { buffered = n }) (reported b) calls in
     record {
       asked = h.asked;
-      fresh = λ x. ap (λ y. told y) (h.fresh x);
-      current = λ r. subst M (sym e) (told_goes s n count b calls m t o (subst N e (h.current r)));
+      fresh = λ x. ap (λ y. reported y) (h.fresh x);
+      current = λ r. subst M (sym e) (reported_goes s n count b calls m t o (subst N e (h.current r)));
     }
 
 pub new_none : (a : Bool) → new_of a [] ≡ []
 new_none true = refl
 new_none false = refl
 
-pub told_over : (s : ReportState) (k count : ℕ) (b : Bus1) (calls : List EpCall) → k ≡ s.buffered - count → b.taken ≡ count
-    → is_over (record s { buffered = k }) ≡ true → Going s b calls → Resting (record s { buffered = k; course = Rests }) (told b) calls
-told_over s k count b calls m t o g =
+pub reported_over : (s : ReportState) (k count : ℕ) (b : Bus1) (calls : List EpCall) → k ≡ s.buffered - count → b.taken ≡ count
+    → is_over (record s { buffered = k }) ≡ true → Going s b calls → Resting (record s { buffered = k; course = Rests }) (reported b) calls
+reported_over s k count b calls m t o g =
     let n = over_none (is_more s) k o in
     let counted = g.counted in
     let left = n.1 in
@@ -445,13 +445,13 @@ told_over s k count b calls m t o g =
     let C : List Sent → Type 0 = λ x. Carries s.size b.got x in
     let A : Bool → Type 0 = λ x. Agrees x s.lost b in
     record {
-      free = record { empty = empty; told = refl; agrees = told_agrees s.unsure s.lost b (subst A (sym g.sure) (g.even empty, λ x. absurd (true_false (sym x ∙ g.closed)))) };
+      free = record { empty = empty; reported = refl; agrees = reported_agrees s.unsure s.lost b (subst A (sym g.sure) (g.even empty, λ x. absurd (true_false (sym x ∙ g.closed)))) };
       carried = newest_carries false s.size b.got (sent_of calls) (subst C (sym g.sent) (subst U (new_none (agree b)) (subst V (hand_none s n.0) (subst W empty g.will))));
       marked = λ x. absurd (true_false (sym x ∙ g.sure));
     }
 
 pub taken_over : (s : ReportState) (k count : ℕ) (b : Bus1) (calls : List EpCall) → k ≡ s.buffered - count → s.course ≡ Goes → b.taken ≡ count
-    → is_over (record s { buffered = k }) ≡ true → Link1 s b calls → Link1 (record s { buffered = k; course = Rests }) (told b) calls
+    → is_over (record s { buffered = k }) ≡ true → Link1 s b calls → Link1 (record s { buffered = k; course = Rests }) (reported b) calls
 taken_over s k count b calls m e t o h =
     let N : Course → Type 0 = λ x. Now1 x s b calls in
-    record { asked = h.asked; fresh = λ x. ap (λ y. told y) (h.fresh x); current = λ r. told_over s k count b calls m t o (subst N e (h.current r)) }
+    record { asked = h.asked; fresh = λ x. ap (λ y. reported y) (h.fresh x); current = λ r. reported_over s k count b calls m t o (subst N e (h.current r)) }

@@ -5,7 +5,7 @@ use Rattle.usb_device.specs.declared.answer.EpAnswer.TheVariants.{Ack, Nak, Pack
 use Rattle.usb_device.specs.Calls.{EpCall, Out, In, Polled}
 use Rattle.usb_device.specs.Bus.{Bus, InMode, Sends, Stalls, OutMode, Takes, StallsOut, Happens, sets_up, takes_in, loses_ack, brings_out, stalls, resets, Goes, looked, is_pending, with_input, with_output, unless_pending}
 use Rattle.usb_device.specs.Transfers.{NothingWithheld0, last_0, TransferState, Idle, Refused, Over, Reads, ReadDue, Sent, Closing, Closed, Opening, Writes, Keeps, Asking, Due, Status, Done, IsOpen, IsHanded, Rests, WasAsked}
-use Rattle.usb_device.specs.ties.Link.{Ready, IsBegun, ended, on_taken}
+use Rattle.usb_device.specs.representation.Link.{Ready, IsBegun, ended, on_taken}
 
 or_true : (x : Bool) → (x || true) ≡ false → ⊥
 or_true true e = cc
@@ -98,36 +98,36 @@ pub rest_goes : (steps : List Bus) (t : TransferState) (b next : Bus) (calls : L
 rest_goes steps t b next calls g h p = let P : Bus → Type 0 = λ x. Rests t x calls in carry P (rests1 t calls) steps b next g p h
 
 -- a command to the controller, where nothing is pending behind it
-told_by : (pending : Bool) (mid other new : Bus) → is_pending mid.met ≡ pending → new ≡ unless_pending pending mid other → is_pending new.met ≡ false
+reported_by : (pending : Bool) (mid other new : Bus) → is_pending mid.met ≡ pending → new ≡ unless_pending pending mid other → is_pending new.met ≡ false
     → (is_pending mid.met ≡ false) × (new ≡ other)
-told_by true mid other new q e p = absurd (true_false (sym q ∙ (sym (ap (λ (x : Bus). is_pending x.met) e) ∙ p)))
-told_by false mid other new q e p = (q, e)
+reported_by true mid other new q e p = absurd (true_false (sym q ∙ (sym (ap (λ (x : Bus). is_pending x.met) e) ∙ p)))
+reported_by false mid other new q e p = (q, e)
 
-told_out : (mid new : Bus) (mode : OutMode) → new ≡ with_output mid mode → is_pending new.met ≡ false
+reported_out : (mid new : Bus) (mode : OutMode) → new ≡ with_output mid mode → is_pending new.met ≡ false
     → (is_pending mid.met ≡ false) × (new ≡ record { seen = mid.seen; input = mid.input; output = mode; met = mid.met })
-told_out mid new mode e p = told_by (is_pending mid.met) mid (record { seen = mid.seen; input = mid.input; output = mode; met = mid.met }) new refl e p
+reported_out mid new mode e p = reported_by (is_pending mid.met) mid (record { seen = mid.seen; input = mid.input; output = mode; met = mid.met }) new refl e p
 
-told_in : (mid new : Bus) (mode : InMode) → new ≡ with_input mid mode → is_pending new.met ≡ false
+reported_in : (mid new : Bus) (mode : InMode) → new ≡ with_input mid mode → is_pending new.met ≡ false
     → (is_pending mid.met ≡ false) × (new ≡ record { seen = mid.seen; input = mode; output = mid.output; met = mid.met })
-told_in mid new mode e p = told_by (is_pending mid.met) mid (record { seen = mid.seen; input = mode; output = mid.output; met = mid.met }) new refl e p
+reported_in mid new mode e p = reported_by (is_pending mid.met) mid (record { seen = mid.seen; input = mode; output = mid.output; met = mid.met }) new refl e p
 
 pub opens : (mid new : Bus) → new ≡ with_output mid Takes → is_pending new.met ≡ false → IsOpen new
-opens mid new e p = subst IsOpen (sym (told_out mid new Takes e p).1) (inl refl)
+opens mid new e p = subst IsOpen (sym (reported_out mid new Takes e p).1) (inl refl)
 
 -- the packet is handed over, and OUT is open
 pub hands : (steps : List Bus) (b mid new : Bus) (packet : List ℕ) → Goes steps b mid → new ≡ with_input mid (Sends packet false)
     → (is_pending b.met ≡ false → IsOpen b) → is_pending new.met ≡ false → IsHanded new packet × IsOpen new
 hands steps b mid new packet g e o p =
-    let t = told_in mid new (Sends packet false) e p in
+    let t = reported_in mid new (Sends packet false) e p in
     let H : Bus → Type 0 = λ x. IsHanded x packet in
     (subst H (sym t.1) (inl (false, refl)), subst IsOpen (sym t.1) (carry IsOpen open1 steps b mid g t.0 o))
 
-pub stalls_told : (mid middle : Bus) (more : List Bus) (end new : Bus) → middle ≡ with_input mid Stalls → Goes more middle end → new ≡ with_output end StallsOut
+pub stalls_reported : (mid middle : Bus) (more : List Bus) (end new : Bus) → middle ≡ with_input mid Stalls → Goes more middle end → new ≡ with_output end StallsOut
     → is_pending new.met ≡ false → (new.input ≡ Stalls) × (new.output ≡ StallsOut)
 unfolding StallsIn
-stalls_told mid middle more end new e g f p =
-    let t = told_out end new StallsOut f p in
-    let i = carry StallsIn stalls1 more middle end g t.0 (λ q. ap (λ (x : Bus). x.input) (told_in mid middle Stalls e q).1) in
+stalls_reported mid middle more end new e g f p =
+    let t = reported_out end new StallsOut f p in
+    let i = carry StallsIn stalls1 more middle end g t.0 (λ q. ap (λ (x : Bus). x.input) (reported_in mid middle Stalls e q).1) in
     (ap (λ (x : Bus). x.input) t.1 ∙ i, ap (λ (x : Bus). x.output) t.1)
 
 -- looked at what was met

@@ -1,4 +1,4 @@
--- What endpoint 1 is, is what the look back says.
+-- What endpoint 1 is, is what the history function says.
 use Rattle.std.proofs.Common.{◌≡◌, ℕ, ◌==◌, ◌&&◌, ◌||◌, not, Bool, true, false, List, [], ◌∷◌, Option, Some, None, refl, sym, ap, subst, ◌∙◌, if◌then◌else◌}
 use Rattle.usb_device.specs.declared.answer.EpAnswer.{EpAnswer}
 use Rattle.usb_device.specs.declared.answer.EpAnswer.TheVariants.{Ack, Nak, Packet, Stall}
@@ -106,7 +106,7 @@ same_lent lent (SuspendCame ∷ past) = same_lent lent past
 same_lent lent (ResumeCame ∷ past) = same_lent lent past
 same_lent lent (WakeAsked has_report answer ∷ past) = same_lent lent past
 
--- what follows a change of the state follows that of the look back
+-- what follows a change of the state follows that of the history function
 followed_from : (lent : Lent) (past : List Event) (A : Type 0) (f : A → Option Change → A) (x y : A) (change : Option Change) (answer : EpAnswer)
     → change ≡ completed lent (is_empty_packet answer) (setup_in past) (state_of lent past).endpoint → (state_of lent past).endpoint ≡ endpoint_by lent past → x ≡ y
     → f x change ≡ f y (completed lent (is_empty_packet answer) (setup_in past) (endpoint_by lent past))

@@ -11,7 +11,7 @@ use Rattle.usb_device.specs.declared.whole_transfers.Status.TheVariants.{Done, W
 use Rattle.usb_device.specs.Calls.{EpCall, SetUp, Out, In}
 use Rattle.usb_device.specs.Confirmed.{confirmation}
 use Rattle.usb_device.specs.Whole.{data_status_of, status_by, status_of, data_calls, put_off, begun, IsWritten, in_data, in_status, FailedBy}
-use Rattle.usb_device.specs.ties.Whole.{Gives, IsConfirmed, NotConfirmed}
+use Rattle.usb_device.specs.representation.Whole.{Gives, IsConfirmed, NotConfirmed}
 
 done_empty : (bytes : List ℕ) → status_by bytes ≡ Done → bytes ≡ []
 done_empty [] e = refl

@@ -1,4 +1,4 @@
--- Believed: the address that a controller answers to (USB 2.0 sections 9.2.6.3 and 9.4.6).
+-- Trusted: the address that a controller answers to (USB 2.0 sections 9.2.6.3 and 9.4.6).
 use Rattle.std.specs.Prelude.{◌≡◌, ◌⊎◌, ℕ, Bool, true, false, List, [], ◌∷◌, Option, Some}
 use Rattle.usb_device.specs.Calls.{EpCall, BusReset}
 use Rattle.usb_device.specs.Bus.{Bus}

@@ -1,4 +1,4 @@
--- Believed: endpoint 0 of a controller with buffers, and what may happen on its bus between two calls (USB 2.0 section 8.5.3). A
+-- Trusted: endpoint 0 of a controller with buffers, and what may happen on its bus between two calls (USB 2.0 section 8.5.3). A
 -- packet may be with the host while its ACK was lost: it is then sent again, and the host drops the repetition (section 8.6.4).
 use Rattle.std.specs.Prelude.{◌≡◌, ℕ, ◌==◌, ◌&&◌, ◌||◌, nat_lt, not, is_some, Bool, true, false, List, [], ◌∷◌, slice_index, Option, Some, None}
 use Rattle.usb_device.specs.declared.controller.Input.{Input}

@@ -1,4 +1,4 @@
--- Believed: endpoint 1 of a controller with buffers, the data toggles of both sides, and what may happen on its bus (USB 2.0
+-- Trusted: endpoint 1 of a controller with buffers, the data toggles of both sides, and what may happen on its bus (USB 2.0
 -- sections 5.7.5 and 8.6). A host takes a packet as new where it has the toggle that it wants, and drops it as a repetition
 -- where it has the other one; it acknowledges both. The acknowledgement may be lost: then the packet is sent again.
 use Rattle.std.specs.Prelude.{◌≡◌, ◌⊎◌, ℕ, ◌+◌, ◌==◌, ◌&&◌, Bool, true, false, not, List, [], ◌∷◌, ◌++◌, slice_index, Option, Some, None}
@@ -24,11 +24,11 @@ pub record Bus1 : Type 0 where
   pub device : Bool
   -- the packets in the buffers, oldest first
   pub slots : List (List ℕ)
-  -- how many packets were acknowledged, and that was not told
+  -- how many packets were acknowledged, and that was not reported
   pub taken : ℕ
   -- the device began anew, and no packet was handed over since: the host may begin anew, too
   pub opened : Bool
-  -- the bus was reset, and that was not told
+  -- the bus was reset, and that was not reported
   pub reset : Bool
 
 -- nothing has happened since a reset
@@ -87,20 +87,20 @@ abbrev pub Goes1 : List Bus1 → Bus1 → Bus1 → Type 0
 Goes1 [] b next = next ≡ b
 Goes1 (mid ∷ rest) b next = Happens1 b mid × Goes1 rest mid next
 
--- what was taken is told
-abbrev pub told : Bus1 → Bus1
-told b = record { got = b.got; host = b.host; device = b.device; slots = b.slots; taken = 0; opened = b.opened; reset = b.reset }
+-- what was taken is reported
+abbrev pub reported : Bus1 → Bus1
+reported b = record { got = b.got; host = b.host; device = b.device; slots = b.slots; taken = 0; opened = b.opened; reset = b.reset }
 
 -- nothing was done but that
-abbrev pub OnlyTold : Bus1 → Bus1 → Type 0
-OnlyTold b new = (steps : List Bus1) × (mid : Bus1) × Goes1 steps b mid × (new ≡ told mid)
+abbrev pub OnlyReported : Bus1 → Bus1 → Type 0
+OnlyReported b new = (steps : List Bus1) × (mid : Bus1) × Goes1 steps b mid × (new ≡ reported mid)
 
 -- the host is known to have the status packet: it has begun anew
 abbrev pub begun_if : Bool → Bus1 → Bus1
 begun_if true b = with_host_anew b
 begun_if false b = b
 
--- a command has no effect where a reset has come that was not told
+-- a command has no effect where a reset has come that was not reported
 abbrev pub unless_reset : Bool → Bus1 → Bus1 → Bus1
 unless_reset true b next = b
 unless_reset false b next = next
@@ -181,11 +181,11 @@ newest (Changed ∷ sent) = newest sent
 newest (Reported report ∷ sent) = Reported report ∷ sent
 
 -- what endpoint 1 was set to since the last reset, newest first
-abbrev pub states_told : List Got → List Endpoint1
-states_told [] = []
-states_told (New packet ∷ before) = states_told before
-states_told (GivenUp ∷ before) = states_told before
-states_told (Anew state ∷ before) = state ∷ states_told before
+abbrev pub states_reported : List Got → List Endpoint1
+states_reported [] = []
+states_reported (New packet ∷ before) = states_reported before
+states_reported (GivenUp ∷ before) = states_reported before
+states_reported (Anew state ∷ before) = state ∷ states_reported before
 
 -- the calls but for the polls
 abbrev pub no_polls : List EpCall → List EpCall

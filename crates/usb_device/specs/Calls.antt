@@ -1,4 +1,4 @@
--- Believed: the session of the device behind the USB device layer: what it was asked on endpoints 0 and 1, and what it answered.
+-- Trusted: the session of the device behind the USB device layer: what it was asked on endpoints 0 and 1, and what it answered.
 use Rattle.std.specs.Prelude.{ℕ, List, Option}
 use Rattle.usb_device.specs.declared.answer.EpAnswer.{EpAnswer}
 

@@ -1,4 +1,4 @@
--- Believed: a control write that the host saw the end of is one of the session of the device: it took the SETUP packet, acknowledged
+-- Trusted: a control write that the host saw the end of is one of the session of the device: it took the SETUP packet, acknowledged
 -- the data, and then gave the empty packet.
 use Rattle.std.specs.Prelude.{◌≡◌, ◌⊎◌, ℕ, true, List, [], ◌∷◌, ◌++◌, Option, Some, None}
 use Rattle.usb_device.specs.declared.answer.EpAnswer.TheVariants.{Ack, Nak, Packet}

@@ -1,4 +1,4 @@
--- Believed: what the USB device layer met on the bus, and what it answered.
+-- Trusted: what the USB device layer met on the bus, and what it answered.
 use Rattle.std.specs.Prelude.{ℕ, Bool, List}
 use Rattle.usb_device.specs.declared.answer.EpAnswer.{EpAnswer}
 use Rattle.usb_device.specs.declared.answer.PollAnswer.{PollAnswer}

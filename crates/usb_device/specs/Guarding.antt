@@ -1,4 +1,4 @@
--- Believed: a maker's lock and pace of feature commands, by the calls of a device that stands before another, newest first.
+-- Trusted: a maker's lock and pace of feature commands, by the calls of a device that stands before another, newest first.
 use Rattle.std.specs.Prelude.{◌≡◌, ℕ, ◌+◌, ◌==◌, ◌&&◌, ◌||◌, nat_lt, Bool, true, false, List, [], ◌∷◌, ◌++◌, slice_index, Option, Some, None}
 use Rattle.usb_device.specs.declared.answer.EpAnswer.{EpAnswer}
 use Rattle.usb_device.specs.declared.answer.EpAnswer.TheVariants.{Ack, Nak, Stall}

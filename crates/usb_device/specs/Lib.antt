@@ -17,4 +17,4 @@ pub mod Bus1
 pub mod Reports
 pub mod Addresses
 pub mod Through
-pub mod ties
+pub mod representation

@@ -1,4 +1,4 @@
--- Believed: the packets of a report (USB 2.0 section 5.7.3), and what reports the packets are that a host took as new.
+-- Trusted: the packets of a report (USB 2.0 section 5.7.3), and what reports the packets are that a host took as new.
 use Rattle.std.specs.Prelude.{◌≡◌, ◌⊎◌, ℕ, zero, suc, ◌-◌, ◌/◌, Bool, true, false, List, [], ◌∷◌, ◌++◌, length, take, drop}
 use Rattle.usb_device.specs.Bus1.{Got, New, Anew, GivenUp, Sent, Reported, Changed, is_old, newest}
 

@@ -1,4 +1,4 @@
--- Believed: which standard requests the USB device layer serves, by what endpoint 1 is (USB 2.0 sections 9.3 and 9.4).
+-- Trusted: which standard requests the USB device layer serves, by what endpoint 1 is (USB 2.0 sections 9.3 and 9.4).
 use Rattle.std.specs.Prelude.{ℕ, ◌+◌, ◌*◌, ◌==◌, ◌&&◌, ◌||◌, nat_lt, not, bit_and, Bool, true, false, List, [], ◌∷◌, length, if◌then◌else◌, slice_index, Option, Some, None}
 use Rattle.usb_device.specs.Strings.{string_descriptor}
 use Rattle.usb_device.specs.declared.answer.Endpoint1.{Endpoint1}

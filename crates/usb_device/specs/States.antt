@@ -1,4 +1,4 @@
--- Believed: the states of the device (USB 2.0 section 9.1.1), by looking back over the events.
+-- Trusted: the states of the device (USB 2.0 section 9.1.1), by looking back over the events.
 use Rattle.std.specs.Prelude.{ℕ, ◌==◌, ◌&&◌, ◌||◌, not, Bool, true, false, List, [], ◌∷◌, length, if◌then◌else◌, Option, Some, None}
 use Rattle.usb_device.specs.declared.answer.EpAnswer.{EpAnswer}
 use Rattle.usb_device.specs.declared.answer.EpAnswer.TheVariants.{Packet}

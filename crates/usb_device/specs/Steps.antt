@@ -1,4 +1,4 @@
--- Believed where this crate is called: what each event does to the USB device layer, and what it is answered.
+-- Trusted where this crate is called: what each event does to the USB device layer, and what it is answered.
 use Rattle.std.specs.Prelude.{◌≡◌, ℕ, ◌+◌, ◌==◌, ◌&&◌, ◌||◌, not, Bool, true, false, List, [], ◌∷◌, if◌then◌else◌, Option, Some, None}
 use Rattle.usb_device.specs.declared.answer.EpAnswer.{EpAnswer}
 use Rattle.usb_device.specs.declared.answer.EpAnswer.TheVariants.{Ack, Packet, Stall}

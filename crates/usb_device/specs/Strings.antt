@@ -1,4 +1,4 @@
--- Believed: string descriptors (USB 2.0 section 9.6.7): a length, the type, and the text in UTF-16 with the low byte first.
+-- Trusted: string descriptors (USB 2.0 section 9.6.7): a length, the type, and the text in UTF-16 with the low byte first.
 use Rattle.std.specs.Prelude.{◌≡◌, ℕ, ◌+◌, ◌*◌, ◌/◌, ◌%◌, ◌&&◌, nat_lt, not, Bool, true, false, List, [], ◌∷◌, length, take, flat_map, slice_index, if◌then◌else◌}
 
 -- the first unit of a character of two, and its second

@@ -1,4 +1,4 @@
--- Believed: the events of the device layer as calls of a device: what it shows to whoever stands before it.
+-- Trusted: the events of the device layer as calls of a device: what it shows to whoever stands before it.
 use Rattle.std.specs.Prelude.{List, [], ◌∷◌}
 use Rattle.usb_device.specs.Calls.{EpCall, SetUp, Out, In, Polled, BusReset}
 use Rattle.usb_device.specs.Events.{Event, SetupCame, OutCame, InAsked, PollAsked, ResetCame}

@@ -1,4 +1,4 @@
--- Believed where this crate is called: where the transfer of endpoint 0 stands behind buffers, and what these then hold.
+-- Trusted where this crate is called: where the transfer of endpoint 0 stands behind buffers, and what these then hold.
 use Rattle.std.specs.Prelude.{◌≡◌, ◌⊎◌, ℕ, true, false, List, [], ◌∷◌, Bool, Option, Some, None}
 use Rattle.usb_device.specs.declared.answer.EpAnswer.TheVariants.{Nak, Packet}
 use Rattle.usb_device.specs.Calls.{EpCall, Out, In, Polled}

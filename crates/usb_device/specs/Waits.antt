@@ -1,4 +1,4 @@
--- Believed: how long endpoint 1 waits for the host to know of what a request changed (USB 2.0 section 9.2.6.4).
+-- Trusted: how long endpoint 1 waits for the host to know of what a request changed (USB 2.0 section 9.2.6.4).
 use Rattle.std.specs.Prelude.{ℕ, ◌+◌, Bool, false, List, [], ◌∷◌, nat_lt}
 
 pub data Moment : Type 0 where

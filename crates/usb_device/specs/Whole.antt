@@ -1,4 +1,4 @@
--- Believed: whole control writes, by the calls of the device, newest first.
+-- Trusted: whole control writes, by the calls of the device, newest first.
 use Rattle.std.specs.Prelude.{ℕ, zero, suc, ◌≡◌, List, [], ◌∷◌, ◌++◌}
 use Rattle.usb_device.specs.declared.answer.EpAnswer.{EpAnswer}
 use Rattle.usb_device.specs.declared.answer.EpAnswer.TheVariants.{Ack, Nak, Packet, Stall}

@@ -1,4 +1,4 @@
--- Believed: whole control reads, by the calls of the device, newest first (USB 2.0 sections 5.5.3 and 8.5.3).
+-- Trusted: whole control reads, by the calls of the device, newest first (USB 2.0 sections 5.5.3 and 8.5.3).
 use Rattle.std.specs.Prelude.{ℕ, ◌≡◌, ◌≢◌, ◌||◌, not, nat_lt, Bool, true, false, List, [], ◌∷◌, ◌++◌, length}
 use Rattle.usb_device.specs.declared.answer.EpAnswer.{EpAnswer}
 use Rattle.usb_device.specs.declared.answer.EpAnswer.TheVariants.{Ack, Nak, Packet, Stall}

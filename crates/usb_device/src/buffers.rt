@@ -1,8 +1,8 @@
 //! What is asked of the buffers of endpoint 1.
 
 ghost use Rattle.std.specs.Prelude.{◌≡◌, ◌≤◌, ◌<◌, length, Bool, false, List};
-ghost use Rattle.usb_device.specs.Bus1.{Bus1, Goes1, anew, begun_if, blank, filled, given_up, room_of, told};
-ghost use Rattle.usb_device.specs.ties.Link1.{size_of};
+ghost use Rattle.usb_device.specs.Bus1.{Bus1, Goes1, anew, begun_if, blank, filled, given_up, room_of, reported};
+ghost use Rattle.usb_device.specs.representation.Link1.{size_of};
 
 use crate::{Endpoint1, Report};
 
@@ -61,9 +61,9 @@ pub trait Buffers {
     fn has_two(&self) -> bool
         ensures { result ≡ two };
 
-    /// How many packets the host has taken, and acknowledged; told once.
+    /// How many packets the host has taken, and acknowledged; reported once.
     fn taken_1(&mut self) -> usize
-        ensures { (steps : List Bus1) × (mid : Bus1) × Goes1 steps (bus self.old) mid × (result ≡ mid.taken) × (bus self.new ≡ told mid) };
+        ensures { (steps : List Bus1) × (mid : Bus1) × Goes1 steps (bus self.old) mid × (result ≡ mid.taken) × (bus self.new ≡ reported mid) };
 
     /// Endpoint 1 is this from now on, with empty buffers and DATA0. Without effect after a reset that `forget` did not follow.
     fn begin_anew(&mut self, state: Endpoint1)

@@ -8,7 +8,7 @@ ghost use Rattle.usb_device.specs.Bus.{is_pending, Bus, Goes, Sends, Takes, with
 ghost use Rattle.usb_device.specs.Addresses.{Stays, StaysOrReset};
 ghost use Rattle.usb_device.specs.Bus1.{Adds, KeptOrReset, KeptUnless};
 ghost use Rattle.usb_device.specs.Transfers.{is_done, is_over, TransferState, Idle, Refused, Over, ReadDue, Closing, Opening, Asking, Due, IsOpen, WasAsked, last_0, Rests, NothingWithheld0};
-ghost use Rattle.usb_device.specs.ties.Link.{Link, Ready, IsBegun, ended, on_taken, met_view, transfer_view};
+ghost use Rattle.usb_device.specs.representation.Link.{Link, Ready, IsBegun, ended, on_taken, met_view, transfer_view};
 
 use crate::controller::{Controller, Input, Output, Waiting};
 use crate::{Endpoints, EpAnswer};
@@ -61,7 +61,7 @@ pub struct ControlBuffers {
 
 impl Model for ControlBuffers {
     ghost use Rattle.usb_device.specs.Transfers.{TransferState};
-    ghost use Rattle.usb_device.specs.ties.Link.{transfer_view};
+    ghost use Rattle.usb_device.specs.representation.Link.{transfer_view};
 
     ghost Value = { TransferState };
 
@@ -86,8 +86,8 @@ fn first_transfer(setup: [u8; 8]) -> Transfer
 
 /// Hands on a SETUP packet, behind the reset that came before it.
 fn hand_on<E: Endpoints>(reset: bool, setup: [u8; 8], device: &mut E)
-    ensures behind_a_reset { (calls : List EpCall) → reset ≡ true → E.stands calls device.old → E.stands (SetUp setup ∷ BusReset ∷ calls) device.new }
-    ensures alone { (calls : List EpCall) → reset ≡ false → E.stands calls device.old → E.stands (SetUp setup ∷ calls) device.new }
+    ensures behind_a_reset { (calls : List EpCall) → reset ≡ true → E.refines calls device.old → E.refines (SetUp setup ∷ BusReset ∷ calls) device.new }
+    ensures alone { (calls : List EpCall) → reset ≡ false → E.refines calls device.old → E.refines (SetUp setup ∷ calls) device.new }
     ensures kept { (from : E) → E.keeps from device.old → E.keeps from device.new }
 {
     if reset {
@@ -136,13 +136,13 @@ impl ControlBuffers {
     /// Takes what the controller has met, and fills its buffers. It may be called at any time.
     ///
     /// Whatever happens on the bus, and whatever acknowledgements are lost, a control write whose status packet the host
-    /// got was acknowledged and then confirmed by the device: `laws::seen_is_confirmed` of the link that the call keeps. And
+    /// got was acknowledged and then confirmed by the device: `theorems::seen_is_confirmed` of the link that the call keeps. And
     /// nothing is withheld: behind the call the buffers hold what is due. OUT stays open behind a packet that was taken, so
     /// that the controller acknowledges a repetition (section 8.6.4); a second packet is not due, and stalls the transfer.
     pub fn serve<E: Endpoints, C: Controller>(&mut self, device: &mut E, controller: &mut C)
-        ensures linked { (calls : List EpCall) → E.stands calls device.old → Link self.old (C.bus controller.old) calls
+        ensures linked { (calls : List EpCall) → E.refines calls device.old → Link self.old (C.bus controller.old) calls
             → NothingWithheld0 self.old (C.bus controller.old) calls
-            → (later : List EpCall) × E.stands later device.new × Link self.new (C.bus controller.new) later
+            → (later : List EpCall) × E.refines later device.new × Link self.new (C.bus controller.new) later
             × NothingWithheld0 self.new (C.bus controller.new) later × KeptOrReset calls later
             × StaysOrReset (C.bus controller.new).met.reset calls later (C.address_of controller.old) (C.address_of controller.new) }
         ensures kept { (from : E) → E.keeps from device.old → E.keeps from device.new }
@@ -176,9 +176,9 @@ impl ControlBuffers {
 
     /// Takes what was met.
     fn take<E: Endpoints>(&mut self, met: Waiting, device: &mut E)
-        ensures linked { (b : Bus) (calls : List EpCall) → E.stands calls device.old → Link self.old b calls → met_view met ≡ b.met
+        ensures linked { (b : Bus) (calls : List EpCall) → E.refines calls device.old → Link self.old b calls → met_view met ≡ b.met
             → NothingWithheld0 self.old b calls
-            → (later : List EpCall) × E.stands later device.new × Link self.new (looked b) later × Ready self.new (looked b) later
+            → (later : List EpCall) × E.refines later device.new × Link self.new (looked b) later × Ready self.new (looked b) later
             × KeptUnless b.met.reset calls later }
         ensures kept { (from : E) → E.keeps from device.old → E.keeps from device.new }
     {
@@ -201,10 +201,10 @@ impl ControlBuffers {
     /// Takes what was met in the transfer under way.
     #[tactic(auto, using(crate::proofs::Addressing::adds_none))]
     fn follow<E: Endpoints>(&mut self, taken: bool, out: Option<ArrayVec<u8, 8>>, device: &mut E)
-        ensures linked { (b : Bus) (calls : List EpCall) → E.stands calls device.old → Link self.old b calls
+        ensures linked { (b : Bus) (calls : List EpCall) → E.refines calls device.old → Link self.old b calls
             → b.met.reset ≡ false → b.met.setup ≡ None → b.met.out ≡ option_map (λ p. p.items) out → b.met.taken ≡ taken
             → Rests self.old b calls
-            → (later : List EpCall) × E.stands later device.new × Link self.new (looked b) later × Ready self.new (looked b) later
+            → (later : List EpCall) × E.refines later device.new × Link self.new (looked b) later × Ready self.new (looked b) later
             × Adds [] calls later }
         ensures kept { (from : E) → E.keeps from device.old → E.keeps from device.new }
     {
@@ -230,8 +230,8 @@ impl ControlBuffers {
 
     /// The OUT packet of a read, which ends it.
     fn close<E: Endpoints>(&mut self, packet: ArrayVec<u8, 8>, device: &mut E)
-        ensures linked { (b : Bus) (calls : List EpCall) → E.stands calls device.old → is_pending b.met ≡ false → Link Closing b calls
-            → (later : List EpCall) × E.stands later device.new × Link self.new b later × Ready self.new b later
+        ensures linked { (b : Bus) (calls : List EpCall) → E.refines calls device.old → is_pending b.met ≡ false → Link Closing b calls
+            → (later : List EpCall) × E.refines later device.new × Link self.new b later × Ready self.new b later
             × Adds [] calls later }
         ensures kept { (from : E) → E.keeps from device.old → E.keeps from device.new }
     {
@@ -256,9 +256,9 @@ impl ControlBuffers {
     /// Does what is due.
     #[tactic(auto, using(crate::proofs::Addressing::stays_still, crate::proofs::Addressing::adds_none))]
     fn go_on<E: Endpoints, C: Controller>(&mut self, device: &mut E, controller: &mut C)
-        ensures linked { (calls : List EpCall) → E.stands calls device.old → Link self.old (C.bus controller.old) calls
+        ensures linked { (calls : List EpCall) → E.refines calls device.old → Link self.old (C.bus controller.old) calls
             → Ready self.old (C.bus controller.old) calls
-            → (later : List EpCall) × E.stands later device.new × Link self.new (C.bus controller.new) later
+            → (later : List EpCall) × E.refines later device.new × Link self.new (C.bus controller.new) later
             × NothingWithheld0 self.new (C.bus controller.new) later × Adds [] calls later }
         ensures kept { (from : E) → E.keeps from device.old → E.keeps from device.new }
         ensures stays { Stays (C.bus controller.old) (C.bus controller.new) (C.address_of controller.old) (C.address_of controller.new) }
@@ -291,8 +291,8 @@ impl ControlBuffers {
 
     /// Opens OUT, behind the packet of a write or where none is due, and asks for the packet of the status stage.
     fn ask<E: Endpoints, C: Controller>(&mut self, device: &mut E, controller: &mut C)
-        ensures linked { (calls : List EpCall) → E.stands calls device.old → Link Due (C.bus controller.old) calls
-            → (later : List EpCall) × E.stands later device.new × Link self.new (C.bus controller.new) later
+        ensures linked { (calls : List EpCall) → E.refines calls device.old → Link Due (C.bus controller.old) calls
+            → (later : List EpCall) × E.refines later device.new × Link self.new (C.bus controller.new) later
             × NothingWithheld0 self.new (C.bus controller.new) later × Adds [] calls later }
         ensures kept { (from : E) → E.keeps from device.old → E.keeps from device.new }
         ensures stays { Stays (C.bus controller.old) (C.bus controller.new) (C.address_of controller.old) (C.address_of controller.new) }
@@ -304,9 +304,9 @@ impl ControlBuffers {
     /// Hands over the empty packet of the status stage once the device gives it.
     #[tactic(auto, using(crate::proofs::Addressing::stays_still))]
     fn confirm<E: Endpoints, C: Controller>(&mut self, device: &mut E, controller: &mut C)
-        ensures linked { (calls : List EpCall) → E.stands calls device.old → Link Due (C.bus controller.old) calls
+        ensures linked { (calls : List EpCall) → E.refines calls device.old → Link Due (C.bus controller.old) calls
             → (is_pending (C.bus controller.old).met ≡ false → IsOpen (C.bus controller.old))
-            → (later : List EpCall) × E.stands later device.new × Link self.new (C.bus controller.new) later
+            → (later : List EpCall) × E.refines later device.new × Link self.new (C.bus controller.new) later
             × NothingWithheld0 self.new (C.bus controller.new) later × Adds [] calls later }
         ensures kept { (from : E) → E.keeps from device.old → E.keeps from device.new }
         ensures stays { Stays (C.bus controller.old) (C.bus controller.new) (C.address_of controller.old) (C.address_of controller.new) }
@@ -324,7 +324,7 @@ impl ControlBuffers {
     /// The transfer is over: each further packet is stalled.
     fn refuse<C: Controller>(&mut self, controller: &mut C)
         ensures over { self.new ≡ Over }
-        ensures told { (calls : List EpCall) → WasAsked (last_0 calls) → NothingWithheld0 Over (C.bus controller.new) calls }
+        ensures reported { (calls : List EpCall) → WasAsked (last_0 calls) → NothingWithheld0 Over (C.bus controller.new) calls }
         ensures linked { (calls : List EpCall) → Link Refused (C.bus controller.old) calls → Link Over (C.bus controller.new) calls }
         ensures stays { Stays (C.bus controller.old) (C.bus controller.new) (C.address_of controller.old) (C.address_of controller.new) }
     {
@@ -336,8 +336,8 @@ impl ControlBuffers {
     /// Hands over the next packet of a read.
     #[tactic(auto, using(crate::proofs::Addressing::stays_still))]
     fn read<E: Endpoints, C: Controller>(&mut self, left: u16, device: &mut E, controller: &mut C)
-        ensures linked { (calls : List EpCall) → E.stands calls device.old → Link (ReadDue left) (C.bus controller.old) calls
-            → (later : List EpCall) × E.stands later device.new × Link self.new (C.bus controller.new) later
+        ensures linked { (calls : List EpCall) → E.refines calls device.old → Link (ReadDue left) (C.bus controller.old) calls
+            → (later : List EpCall) × E.refines later device.new × Link self.new (C.bus controller.new) later
             × NothingWithheld0 self.new (C.bus controller.new) later × Adds [] calls later }
         ensures kept { (from : E) → E.keeps from device.old → E.keeps from device.new }
         ensures stays { Stays (C.bus controller.old) (C.bus controller.new) (C.address_of controller.old) (C.address_of controller.new) }

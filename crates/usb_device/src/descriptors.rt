@@ -4,7 +4,7 @@ ghost use Rattle.std.specs.Prelude.{◌≡◌, ◌*◌, ◌≤◌, OnSome};
 ghost use Rattle.std.specs.Option.{option_map};
 ghost use Rattle.usb_device.specs.Packets.{packet_at};
 ghost use Rattle.usb_device.specs.Requests.{has_names, can_wake};
-ghost use Rattle.usb_device.specs.ties.Value.{lent_view, data_bytes};
+ghost use Rattle.usb_device.specs.representation.Value.{lent_view, data_bytes};
 
 use crate::packets::packet_at;
 use crate::strings::string_descriptor;

@@ -5,17 +5,17 @@ ghost use Rattle.std.specs.Option.{option_map};
 ghost use Rattle.usb_device.specs.declared.report_buffers.Course.TheVariants.{Rests};
 ghost use Rattle.usb_device.specs.Steps.{polled_of};
 ghost use Rattle.usb_device.specs.States.{is_empty_packet, has_renewed, wakes_by};
-ghost use Rattle.usb_device.specs.ties.Stands.{StandsFor};
+ghost use Rattle.usb_device.specs.representation.Relation.{Refines};
 ghost use Rattle.usb_device.specs.declared.answer.Endpoint1.{Endpoint1};
 ghost use Rattle.usb_device.specs.Calls.{EpCall, Polled, Out};
-ghost use Rattle.usb_device.specs.Bus1.{no_polls, room_of, blank, OnlyTold};
+ghost use Rattle.usb_device.specs.Bus1.{no_polls, room_of, blank, OnlyReported};
 ghost use Rattle.usb_device.specs.Requests.{Lent};
 ghost use Rattle.usb_device.specs.Events.{Event, SuspendCame, ResumeCame, WakeAsked};
 ghost use Rattle.usb_device.specs.Through.{calls_of};
 ghost use Rattle.usb_device.specs.Waits.{Moment, Scanned, Released};
-ghost use Rattle.usb_device.specs.ties.Waited.{Waited};
-ghost use Rattle.usb_device.specs.ties.Link1.{Link1, InStep, NothingWithheld, may_send};
-ghost use Rattle.usb_device.specs.ties.Layered.{Layered, PolledOnce, endpoint_set, with_state, is_ready, report_waits};
+ghost use Rattle.usb_device.specs.representation.Waited.{Waited};
+ghost use Rattle.usb_device.specs.representation.Link1.{Link1, InStep, NothingWithheld, may_send};
+ghost use Rattle.usb_device.specs.representation.Layered.{Layered, PolledOnce, endpoint_set, with_state, is_ready, report_waits};
 
 use crate::buffers::Buffers;
 use crate::report_buffers::ReportBuffers;
@@ -45,7 +45,7 @@ fn endpoint_set(change: Option<Change>) -> Option<Endpoint1>
 /// Tells the controller what a status packet sets endpoint 1 to, before the packet is handed over.
 fn follow<B: Buffers>(change: Option<Change>, buffers: &mut B, reports: &mut ReportBuffers)
     ensures linked { (calls : List EpCall) → Link1 reports.old (B.bus buffers.old) calls → Link1 reports.new (B.bus buffers.new) calls }
-    ensures told { (states : List Endpoint1) → InStep states (B.bus buffers.old)
+    ensures reported { (states : List Endpoint1) → InStep states (B.bus buffers.old)
         → InStep (with_state (endpoint_set change) states) (B.bus buffers.new) }
 {
     match endpoint_set(change) {
@@ -81,8 +81,8 @@ fn report_of(answer: PollAnswer) -> Option<Report>
 impl<'a, E: Endpoints, B: Buffers> Device<'a, E, B> {
     /// The power comes: the device has no address and is not configured, and the buffers are empty.
     pub fn new(layer: DeviceLayer<'a>, behind: E, buffers: B, size: PacketSize) -> Device<'a, E, B>
-        ensures stands { (lent : Lent) → StandsFor lent [] layer.entry → E.stands [] behind → B.bus buffers ≡ blank false
-            → Layered E.stands lent [] result.layer result.behind result.reports (B.bus result.buffers) }
+        ensures refines { (lent : Lent) → Refines lent [] layer.entry → E.refines [] behind → B.bus buffers ≡ blank false
+            → Layered E.refines lent [] result.layer result.behind result.reports (B.bus result.buffers) }
         ensures waits { Waited [] result.reports.left }
         ensures holds { result.behind ≡ behind }
     {
@@ -97,9 +97,9 @@ impl<'a, E: Endpoints, B: Buffers> Device<'a, E, B> {
 
     /// A scan of the matrix, a millisecond after the one before.
     pub fn scan(&mut self)
-        ensures stands { (lent : Lent) (past : List Event)
-            → Layered E.stands lent past self.old.layer self.old.behind self.old.reports (B.bus self.old.buffers)
-            → Layered E.stands lent past self.new.layer self.new.behind self.new.reports (B.bus self.new.buffers) }
+        ensures refines { (lent : Lent) (past : List Event)
+            → Layered E.refines lent past self.old.layer self.old.behind self.old.reports (B.bus self.old.buffers)
+            → Layered E.refines lent past self.new.layer self.new.behind self.new.reports (B.bus self.new.buffers) }
         ensures waits { (moments : List Moment) → Waited moments self.old.reports.left → Waited (Scanned ∷ moments) self.new.reports.left }
         ensures less { self.new.reports.left ≡ self.old.reports.left - 1 }
         ensures behind { self.new.behind ≡ self.old.behind }
@@ -110,11 +110,11 @@ impl<'a, E: Endpoints, B: Buffers> Device<'a, E, B> {
     /// The host has the status packet of its transfer. Where that set endpoint 1, the host has begun anew. Behind any other transfer
     /// it may have given such a request up, and it stays open which data toggle it wants.
     pub fn is_done(&mut self)
-        ensures stands { (lent : Lent) (past : List Event)
-            → Layered E.stands lent past self.old.layer self.old.behind self.old.reports (B.bus self.old.buffers)
-            → Layered E.stands lent past self.new.layer self.new.behind self.new.reports (B.bus self.new.buffers) }
+        ensures refines { (lent : Lent) (past : List Event)
+            → Layered E.refines lent past self.old.layer self.old.behind self.old.reports (B.bus self.old.buffers)
+            → Layered E.refines lent past self.new.layer self.new.behind self.new.reports (B.bus self.new.buffers) }
         ensures waits { (moments : List Moment) → Waited (Released ∷ moments) self.new.reports.left }
-        ensures others { (lent : Lent) (past : List Event) → StandsFor lent past self.old.layer → has_renewed lent past ≡ false
+        ensures others { (lent : Lent) (past : List Event) → Refines lent past self.old.layer → has_renewed lent past ≡ false
             → (self.new.buffers ≡ self.old.buffers) × (self.new.reports ≡ record self.old.reports { left = 0 }) }
         ensures behind { self.new.behind ≡ self.old.behind }
     {
@@ -127,9 +127,9 @@ impl<'a, E: Endpoints, B: Buffers> Device<'a, E, B> {
 
     /// The bus is suspended.
     pub fn suspend(&mut self)
-        ensures stands { (lent : Lent) (past : List Event)
-            → Layered E.stands lent past self.old.layer self.old.behind self.old.reports (B.bus self.old.buffers)
-            → Layered E.stands lent (SuspendCame ∷ past) self.new.layer self.new.behind self.new.reports (B.bus self.new.buffers) }
+        ensures refines { (lent : Lent) (past : List Event)
+            → Layered E.refines lent past self.old.layer self.old.behind self.old.reports (B.bus self.old.buffers)
+            → Layered E.refines lent (SuspendCame ∷ past) self.new.layer self.new.behind self.new.reports (B.bus self.new.buffers) }
         ensures behind { self.new.behind ≡ self.old.behind }
     {
         self.layer.suspend();
@@ -137,9 +137,9 @@ impl<'a, E: Endpoints, B: Buffers> Device<'a, E, B> {
 
     /// The bus goes on.
     pub fn resume(&mut self)
-        ensures stands { (lent : Lent) (past : List Event)
-            → Layered E.stands lent past self.old.layer self.old.behind self.old.reports (B.bus self.old.buffers)
-            → Layered E.stands lent (ResumeCame ∷ past) self.new.layer self.new.behind self.new.reports (B.bus self.new.buffers) }
+        ensures refines { (lent : Lent) (past : List Event)
+            → Layered E.refines lent past self.old.layer self.old.behind self.old.reports (B.bus self.old.buffers)
+            → Layered E.refines lent (ResumeCame ∷ past) self.new.layer self.new.behind self.new.reports (B.bus self.new.buffers) }
         ensures behind { self.new.behind ≡ self.old.behind }
     {
         self.layer.resume();
@@ -147,10 +147,10 @@ impl<'a, E: Endpoints, B: Buffers> Device<'a, E, B> {
 
     /// Whether to signal a remote wakeup: a report waits for the host, which has enabled it and has suspended the bus; once.
     pub fn wakes(&mut self) -> bool
-        ensures stands { (lent : Lent) (past : List Event)
-            → Layered E.stands lent past self.old.layer self.old.behind self.old.reports (B.bus self.old.buffers)
-            → Layered E.stands lent (WakeAsked (report_waits self.old.layer self.old.reports) result ∷ past) self.new.layer self.new.behind self.new.reports (B.bus self.new.buffers) }
-        ensures answer { (lent : Lent) (past : List Event) → StandsFor lent past self.old.layer
+        ensures refines { (lent : Lent) (past : List Event)
+            → Layered E.refines lent past self.old.layer self.old.behind self.old.reports (B.bus self.old.buffers)
+            → Layered E.refines lent (WakeAsked (report_waits self.old.layer self.old.reports) result ∷ past) self.new.layer self.new.behind self.new.reports (B.bus self.new.buffers) }
+        ensures answer { (lent : Lent) (past : List Event) → Refines lent past self.old.layer
             → result ≡ wakes_by lent past (report_waits self.old.layer self.old.reports) }
         ensures behind { self.new.behind ≡ self.old.behind }
     {
@@ -171,12 +171,12 @@ impl<'a, E: Endpoints, B: Buffers> Device<'a, E, B> {
     /// Nothing is withheld: behind the call all of a report, or as much as there are buffers, is in them or was just taken,
     /// or the device behind has none.
     pub fn serve_reports(&mut self)
-        ensures stands { (lent : Lent) (past : List Event)
-            → Layered E.stands lent past self.old.layer self.old.behind self.old.reports (B.bus self.old.buffers)
-            → (later : List Event) × Layered E.stands lent later self.new.layer self.new.behind self.new.reports (B.bus self.new.buffers)
+        ensures refines { (lent : Lent) (past : List Event)
+            → Layered E.refines lent past self.old.layer self.old.behind self.old.reports (B.bus self.old.buffers)
+            → (later : List Event) × Layered E.refines lent later self.new.layer self.new.behind self.new.reports (B.bus self.new.buffers)
             × NothingWithheld (may_send (is_ready self.old.layer.endpoint) self.old.reports.left) (room_of B.two) self.new.reports (B.bus self.new.buffers) (calls_of later)
             × PolledOnce past later × (may_send (is_ready self.old.layer.endpoint) self.old.reports.left ≡ false
-            → (later ≡ past) × OnlyTold (B.bus self.old.buffers) (B.bus self.new.buffers)) }
+            → (later ≡ past) × OnlyReported (B.bus self.old.buffers) (B.bus self.new.buffers)) }
         ensures waits { self.new.reports.left ≡ self.old.reports.left }
         ensures same { self.new.layer.endpoint ≡ self.old.layer.endpoint }
         ensures kept { (from : E) → E.keeps from self.old.behind → E.keeps from self.new.behind }
@@ -208,11 +208,11 @@ impl<'a, E: Endpoints, B: Buffers> Device<'a, E, B> {
 
     /// Hands an OUT packet of endpoint 0 to the layer.
     fn take(&mut self, packet: &[u8]) -> EpAnswer
-        ensures stands { (calls : List EpCall) → ((lent : Lent) × (past : List Event)
-            × Layered E.stands lent past self.old.layer self.old.behind self.old.reports (B.bus self.old.buffers)
+        ensures refines { (calls : List EpCall) → ((lent : Lent) × (past : List Event)
+            × Layered E.refines lent past self.old.layer self.old.behind self.old.reports (B.bus self.old.buffers)
             × (no_polls (calls_of past) ≡ no_polls calls))
             → (lent : Lent) × (past : List Event)
-            × Layered E.stands lent past self.new.layer self.new.behind self.new.reports (B.bus self.new.buffers)
+            × Layered E.refines lent past self.new.layer self.new.behind self.new.reports (B.bus self.new.buffers)
             × (no_polls (calls_of past) ≡ no_polls (Out packet.now result ∷ calls)) }
         ensures kept { (from : E) → E.keeps from self.old.behind → E.keeps from self.new.behind }
     {
@@ -221,9 +221,9 @@ impl<'a, E: Endpoints, B: Buffers> Device<'a, E, B> {
 
     /// Asks the device behind for a report, where none is under way.
     fn ask(&mut self)
-        ensures stands { (lent : Lent) (past : List Event)
-            → Layered E.stands lent past self.old.layer self.old.behind self.old.reports (B.bus self.old.buffers)
-            → (later : List Event) × Layered E.stands lent later self.new.layer self.new.behind self.new.reports (B.bus self.new.buffers)
+        ensures refines { (lent : Lent) (past : List Event)
+            → Layered E.refines lent past self.old.layer self.old.behind self.old.reports (B.bus self.old.buffers)
+            → (later : List Event) × Layered E.refines lent later self.new.layer self.new.behind self.new.reports (B.bus self.new.buffers)
             × (self.new.reports.course ≡ Rests → (before : List EpCall) × (calls_of later ≡ Polled None ∷ before)) × PolledOnce past later }
         ensures waits { self.new.reports.left ≡ self.old.reports.left }
         ensures same { self.new.layer.endpoint ≡ self.old.layer.endpoint }
@@ -239,7 +239,7 @@ impl<'a, E: Endpoints, B: Buffers> Device<'a, E, B> {
 }
 
 impl<'a, E: Endpoints, B: Buffers> Endpoints for Device<'a, E, B> {
-    ghost stands = { λ calls d. (lent : Lent) × (past : List Event) × Layered E.stands lent past d.layer d.behind d.reports (B.bus d.buffers)
+    ghost refines = { λ calls d. (lent : Lent) × (past : List Event) × Layered E.refines lent past d.layer d.behind d.reports (B.bus d.buffers)
         × (no_polls (calls_of past) ≡ no_polls calls) };
 
     ghost keeps = { λ from d. E.keeps from.behind d.behind };

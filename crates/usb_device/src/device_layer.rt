@@ -7,9 +7,9 @@ ghost use Rattle.usb_device.specs.Requests.{Lent};
 ghost use Rattle.usb_device.specs.Calls.{EpCall};
 ghost use Rattle.usb_device.specs.Events.{Event, SetupCame, OutCame, InAsked, PollAsked, ResetCame, SuspendCame, ResumeCame, WakeAsked};
 ghost use Rattle.usb_device.specs.Steps.{LayerState, begun, InAnswer, OutAnswer, PollAnswers, change_of, endpoint_then, due_then, renewed_then, wakeup_then, wakes, state_then, calls_then, session, state_of, first_stage};
-ghost use Rattle.usb_device.specs.ties.Value.{lent_view, data_bytes, stage_view, begun_view};
+ghost use Rattle.usb_device.specs.representation.Value.{lent_view, data_bytes, stage_view, begun_view};
 ghost use Rattle.usb_device.specs.States.{wakes_by};
-ghost use Rattle.usb_device.specs.ties.Stands.{StandsFor};
+ghost use Rattle.usb_device.specs.representation.Relation.{Refines};
 
 use crate::descriptors::{Data, Descriptors};
 use crate::request::{Request, Served};
@@ -64,7 +64,7 @@ pub struct DeviceLayer<'a> {
 
 impl<'a> Model for DeviceLayer<'a> {
     ghost use Rattle.usb_device.specs.Steps.{LayerState};
-    ghost use Rattle.usb_device.specs.ties.Value.{lent_view, stage_view};
+    ghost use Rattle.usb_device.specs.representation.Value.{lent_view, stage_view};
 
     ghost Value = { LayerState };
 
@@ -91,7 +91,7 @@ impl<'a> DeviceLayer<'a> {
     /// The power comes: the device has no address, and is not configured (section 9.1.1.2).
     #[tactic(auto, unfolding(crate::specs::Steps::state_of))]
     pub fn new(descriptors: Descriptors<'a>) -> DeviceLayer<'a>
-        ensures { StandsFor (lent_view descriptors.entry) [] result }
+        ensures { Refines (lent_view descriptors.entry) [] result }
     {
         DeviceLayer {
             lent: descriptors,
@@ -136,7 +136,7 @@ impl<'a> DeviceLayer<'a> {
 
     /// The bus is suspended: it was idle for 3 ms (section 7.1.7.6). Address and configuration stay.
     pub fn suspend(&mut self)
-        ensures { (lent : Lent) (past : List Event) → StandsFor lent past self.old → StandsFor lent (SuspendCame ∷ past) self.new }
+        ensures { (lent : Lent) (past : List Event) → Refines lent past self.old → Refines lent (SuspendCame ∷ past) self.new }
     {
         self.answer_suspend();
     }
@@ -150,7 +150,7 @@ impl<'a> DeviceLayer<'a> {
 
     /// The bus goes on.
     pub fn resume(&mut self)
-        ensures { (lent : Lent) (past : List Event) → StandsFor lent past self.old → StandsFor lent (ResumeCame ∷ past) self.new }
+        ensures { (lent : Lent) (past : List Event) → Refines lent past self.old → Refines lent (ResumeCame ∷ past) self.new }
     {
         self.answer_resume();
     }
@@ -164,8 +164,8 @@ impl<'a> DeviceLayer<'a> {
     /// Whether to signal a remote wakeup (section 7.1.7.7), where a report waits for the host or not: once in each suspend, if the
     /// host has enabled it.
     pub fn wakes(&mut self, has_report: bool) -> bool
-        ensures stands { (lent : Lent) (past : List Event) → StandsFor lent past self.old → StandsFor lent (WakeAsked has_report result ∷ past) self.new }
-        ensures answer { (lent : Lent) (past : List Event) → StandsFor lent past self.old → result ≡ wakes_by lent past has_report }
+        ensures refines { (lent : Lent) (past : List Event) → Refines lent past self.old → Refines lent (WakeAsked has_report result ∷ past) self.new }
+        ensures answer { (lent : Lent) (past : List Event) → Refines lent past self.old → result ≡ wakes_by lent past has_report }
     {
         self.answer_wakes(has_report)
     }
@@ -181,9 +181,9 @@ impl<'a> DeviceLayer<'a> {
 
     /// A SETUP packet of endpoint 0, which ends the transfer before it.
     pub fn setup<E: Endpoints>(&mut self, packet: [u8; 8], behind: &mut E)
-        ensures stands { (lent : Lent) (past : List Event) → StandsFor lent past self.old → StandsFor lent (SetupCame packet ∷ past) self.new }
-        ensures session { (lent : Lent) (past : List Event) → StandsFor lent past self.old → E.stands (session lent past) behind.old
-            → E.stands (session lent (SetupCame packet ∷ past)) behind.new }
+        ensures refines { (lent : Lent) (past : List Event) → Refines lent past self.old → Refines lent (SetupCame packet ∷ past) self.new }
+        ensures session { (lent : Lent) (past : List Event) → Refines lent past self.old → E.refines (session lent past) behind.old
+            → E.refines (session lent (SetupCame packet ∷ past)) behind.new }
         ensures kept { (from : E) → E.keeps from behind.old → E.keeps from behind.new }
     {
         behind.setup(packet);
@@ -213,9 +213,9 @@ impl<'a> DeviceLayer<'a> {
 
     /// An OUT packet of endpoint 0. An empty one ends a read.
     pub fn out_packet<E: Endpoints>(&mut self, packet: &[u8], behind: &mut E) -> EpAnswer
-        ensures stands { (lent : Lent) (past : List Event) → StandsFor lent past self.old → StandsFor lent (OutCame packet.now result ∷ past) self.new }
-        ensures session { (lent : Lent) (past : List Event) → StandsFor lent past self.old → E.stands (session lent past) behind.old
-            → E.stands (session lent (OutCame packet.now result ∷ past)) behind.new }
+        ensures refines { (lent : Lent) (past : List Event) → Refines lent past self.old → Refines lent (OutCame packet.now result ∷ past) self.new }
+        ensures session { (lent : Lent) (past : List Event) → Refines lent past self.old → E.refines (session lent past) behind.old
+            → E.refines (session lent (OutCame packet.now result ∷ past)) behind.new }
         ensures kept { (from : E) → E.keeps from behind.old → E.keeps from behind.new }
     {
         self.answer_out(packet, behind)
@@ -224,7 +224,7 @@ impl<'a> DeviceLayer<'a> {
     fn answer_out<E: Endpoints>(&mut self, packet: &[u8], behind: &mut E) -> EpAnswer
         ensures answer { OutAnswer self.old.stage packet.now result }
         ensures left { self.new ≡ state_then self.old (OutCame packet.now result) }
-        ensures calls { (past : List EpCall) → E.stands past behind.old → E.stands (calls_then self.old (OutCame packet.now result) past) behind.new }
+        ensures calls { (past : List EpCall) → E.refines past behind.old → E.refines (calls_then self.old (OutCame packet.now result) past) behind.new }
         ensures kept { (from : E) → E.keeps from behind.old → E.keeps from behind.new }
     {
         match &self.stage {
@@ -242,10 +242,10 @@ impl<'a> DeviceLayer<'a> {
 
     /// An IN token of endpoint 0: the answer, and what the controller has to do once it is on the bus.
     pub fn in_packet<E: Endpoints>(&mut self, behind: &mut E) -> (EpAnswer, Option<Change>)
-        ensures stands { (lent : Lent) (past : List Event) → StandsFor lent past self.old → StandsFor lent (InAsked result.0 ∷ past) self.new }
+        ensures refines { (lent : Lent) (past : List Event) → Refines lent past self.old → Refines lent (InAsked result.0 ∷ past) self.new }
         ensures change { result.1 ≡ change_of self.old.stage }
-        ensures session { (lent : Lent) (past : List Event) → StandsFor lent past self.old → E.stands (session lent past) behind.old
-            → E.stands (session lent (InAsked result.0 ∷ past)) behind.new }
+        ensures session { (lent : Lent) (past : List Event) → Refines lent past self.old → E.refines (session lent past) behind.old
+            → E.refines (session lent (InAsked result.0 ∷ past)) behind.new }
         ensures kept { (from : E) → E.keeps from behind.old → E.keeps from behind.new }
     {
         self.answer_in(behind)
@@ -255,7 +255,7 @@ impl<'a> DeviceLayer<'a> {
         ensures answer { InAnswer self.old.stage result.0 }
         ensures change { result.1 ≡ change_of self.old.stage }
         ensures left { self.new ≡ state_then self.old (InAsked result.0) }
-        ensures calls { (past : List EpCall) → E.stands past behind.old → E.stands (calls_then self.old (InAsked result.0) past) behind.new }
+        ensures calls { (past : List EpCall) → E.refines past behind.old → E.refines (calls_then self.old (InAsked result.0) past) behind.new }
         ensures kept { (from : E) → E.keeps from behind.old → E.keeps from behind.new }
     {
         match &mut self.stage {
@@ -303,10 +303,10 @@ impl<'a> DeviceLayer<'a> {
 
     /// An IN token of endpoint 1. The device behind is asked only where the endpoint is ready.
     pub fn poll<E: Endpoints>(&mut self, behind: &mut E) -> PollAnswer
-        ensures stands { (lent : Lent) (past : List Event) → StandsFor lent past self.old → StandsFor lent (PollAsked result ∷ past) self.new }
+        ensures refines { (lent : Lent) (past : List Event) → Refines lent past self.old → Refines lent (PollAsked result ∷ past) self.new }
         ensures same { self.new ≡ self.old }
-        ensures session { (lent : Lent) (past : List Event) → StandsFor lent past self.old → E.stands (session lent past) behind.old
-            → E.stands (session lent (PollAsked result ∷ past)) behind.new }
+        ensures session { (lent : Lent) (past : List Event) → Refines lent past self.old → E.refines (session lent past) behind.old
+            → E.refines (session lent (PollAsked result ∷ past)) behind.new }
         ensures kept { (from : E) → E.keeps from behind.old → E.keeps from behind.new }
     {
         self.answer_poll(behind)
@@ -315,7 +315,7 @@ impl<'a> DeviceLayer<'a> {
     fn answer_poll<E: Endpoints>(&mut self, behind: &mut E) -> PollAnswer
         ensures answer { PollAnswers self.old.endpoint result }
         ensures left { self.new ≡ self.old }
-        ensures calls { (past : List EpCall) → E.stands past behind.old → E.stands (calls_then self.old (PollAsked result) past) behind.new }
+        ensures calls { (past : List EpCall) → E.refines past behind.old → E.refines (calls_then self.old (PollAsked result) past) behind.new }
         ensures kept { (from : E) → E.keeps from behind.old → E.keeps from behind.new }
     {
         match self.endpoint {
@@ -330,9 +330,9 @@ impl<'a> DeviceLayer<'a> {
 
     /// A bus reset: the device has address 0, and is not configured (section 9.1.1.3).
     pub fn bus_reset<E: Endpoints>(&mut self, behind: &mut E)
-        ensures stands { (lent : Lent) (past : List Event) → StandsFor lent past self.old → StandsFor lent (ResetCame ∷ past) self.new }
-        ensures session { (lent : Lent) (past : List Event) → StandsFor lent past self.old → E.stands (session lent past) behind.old
-            → E.stands (session lent (ResetCame ∷ past)) behind.new }
+        ensures refines { (lent : Lent) (past : List Event) → Refines lent past self.old → Refines lent (ResetCame ∷ past) self.new }
+        ensures session { (lent : Lent) (past : List Event) → Refines lent past self.old → E.refines (session lent past) behind.old
+            → E.refines (session lent (ResetCame ∷ past)) behind.new }
         ensures kept { (from : E) → E.keeps from behind.old → E.keeps from behind.new }
     {
         self.answer_reset(behind);
@@ -341,7 +341,7 @@ impl<'a> DeviceLayer<'a> {
     /// Ends the transfer and the configuration.
     fn answer_reset<E: Endpoints>(&mut self, behind: &mut E)
         ensures left { self.new ≡ state_then self.old ResetCame }
-        ensures calls { (past : List EpCall) → E.stands past behind.old → E.stands (calls_then self.old ResetCame past) behind.new }
+        ensures calls { (past : List EpCall) → E.refines past behind.old → E.refines (calls_then self.old ResetCame past) behind.new }
         ensures kept { (from : E) → E.keeps from behind.old → E.keeps from behind.new }
     {
         behind.bus_reset();

@@ -6,7 +6,7 @@ ghost use Rattle.usb_device.specs.Bus1.{sets_protocol};
 ghost use Rattle.usb_device.specs.Calls.{EpCall};
 ghost use Rattle.usb_device.specs.States.{is_empty_packet};
 ghost use Rattle.usb_device.specs.Forgetting.{blank, bytes_of, chosen, names_boot};
-ghost use Rattle.usb_device.specs.ties.Forgetting.{StandsBehind, forgets_of};
+ghost use Rattle.usb_device.specs.representation.Forgetting.{RefinesBehind, forgets_of};
 
 use crate::report_buffers::{held, is_empty, sets_protocol};
 use crate::{Endpoints, EpAnswer, Report, ScansMatrix, Works};
@@ -124,7 +124,7 @@ pub struct Forgetting<E> {
 impl<E: Endpoints> Forgetting<E> {
     /// A device that starts in the report protocol.
     pub fn new(behind: E) -> Forgetting<E>
-        ensures { E.stands [] behind → StandsBehind E.stands [] result.forgets result.behind }
+        ensures { E.refines [] behind → RefinesBehind E.refines [] result.forgets result.behind }
     {
         Forgetting {
             forgets: Forgets::new(),
@@ -134,7 +134,7 @@ impl<E: Endpoints> Forgetting<E> {
 }
 
 impl<E: Endpoints> Endpoints for Forgetting<E> {
-    ghost stands = { λ calls f. StandsBehind E.stands calls f.forgets f.behind };
+    ghost refines = { λ calls f. RefinesBehind E.refines calls f.forgets f.behind };
 
     ghost keeps = { λ from f. E.keeps from.behind f.behind };
 

@@ -2,7 +2,7 @@
 
 ghost use Rattle.std.specs.Prelude.{◌≡◌, ◌-◌, ◌&&◌, ◌||◌, ◌==◌, not, ℕ, Bool, true, false, Some};
 ghost use Rattle.usb_device.specs.Guarding.{is_feature, writes, passage_by};
-ghost use Rattle.usb_device.specs.ties.Guarded.{passage_view, is_taken, left_by};
+ghost use Rattle.usb_device.specs.representation.Guarded.{passage_view, is_taken, left_by};
 
 use crate::EpAnswer;
 

@@ -4,7 +4,7 @@ ghost use Rattle.std.specs.Prelude.{◌≡◌, ◌∷◌, [], ℕ, min, List};
 ghost use Rattle.std.specs.Option.{option_map};
 ghost use Rattle.usb_device.specs.Calls.{EpCall, SetUp, Out, In, Polled, BusReset};
 ghost use Rattle.usb_device.specs.Guarding.{GuardCall, Met, Locked, Scanned, Serves, ScansRows, Else, Brings};
-ghost use Rattle.usb_device.specs.ties.Guarded.{Guards};
+ghost use Rattle.usb_device.specs.representation.Guarded.{Guards};
 
 use crate::guard::{Guard, Passage};
 use crate::{Endpoints, EpAnswer, Report, Works};
@@ -20,7 +20,7 @@ pub trait ScansMatrix: Endpoints {
     /// A scan of the matrix, which is nothing to the bus.
     fn scan(&mut self, rows: [u16; 6])
         ensures made { scans self.old rows self.new }
-        ensures stands { (past : List EpCall) → Self.stands past self.old → Self.stands past self.new };
+        ensures refines { (past : List EpCall) → Self.refines past self.old → Self.refines past self.new };
 }
 
 /// A device whose feature commands, operations 1 to 3 of SET_REPORT, a maker locks and slows down.
@@ -53,7 +53,7 @@ pub struct Guarded<E> {
 impl<E: Endpoints> Guarded<E> {
     /// The lock is off. The pace is a number of scans, at most 4,000, and 0 for none.
     pub fn new(behind: E, pace: u16) -> Guarded<E>
-        ensures { E.stands [] behind → Guards E.stands (min pace 4000) [] result.guard result.behind }
+        ensures { E.refines [] behind → Guards E.refines (min pace 4000) [] result.guard result.behind }
     {
         Guarded {
             guard: Guard::new(pace.min(MOST_SCANS)),
@@ -63,8 +63,8 @@ impl<E: Endpoints> Guarded<E> {
 
     /// Sets the lock, or takes it away.
     pub fn set_locked(&mut self, on: bool)
-        ensures { (pace : ℕ) (past : List GuardCall) → Guards E.stands pace past self.old.guard self.old.behind
-            → Guards E.stands pace (Locked on ∷ past) self.new.guard self.new.behind }
+        ensures { (pace : ℕ) (past : List GuardCall) → Guards E.refines pace past self.old.guard self.old.behind
+            → Guards E.refines pace (Locked on ∷ past) self.new.guard self.new.behind }
     {
         self.guard.set_locked(on);
     }
@@ -72,25 +72,25 @@ impl<E: Endpoints> Guarded<E> {
 
 impl<E: Endpoints> Endpoints for Guarded<E> {
     ghost use Rattle.usb_device.specs.declared.guarded.Guarded.{Guarded};
-    ghost use Rattle.usb_device.specs.ties.Guarded.{StandsGuarded, Went};
+    ghost use Rattle.usb_device.specs.representation.Guarded.{RefinesGuarded, Went};
 
-    ghost stands = { λ calls g. StandsGuarded E.stands calls g.guard g.behind };
+    ghost refines = { λ calls g. RefinesGuarded E.refines calls g.guard g.behind };
 
-    ghost keeps = { λ from g. Went E.stands (Brings Serves) from g };
+    ghost keeps = { λ from g. Went E.refines (Brings Serves) from g };
 
     fn setup(&mut self, packet: [u8; 8])
-        ensures told { (pace : ℕ) (past : List GuardCall) → Guards E.stands pace past self.old.guard self.old.behind
-            → Guards E.stands pace (Met (SetUp packet) ∷ past) self.new.guard self.new.behind }
-        ensures kept { (from : Guarded E) → Went E.stands (Brings Serves) from self.old → Went E.stands (Brings Serves) from self.new }
+        ensures reported { (pace : ℕ) (past : List GuardCall) → Guards E.refines pace past self.old.guard self.old.behind
+            → Guards E.refines pace (Met (SetUp packet) ∷ past) self.new.guard self.new.behind }
+        ensures kept { (from : Guarded E) → Went E.refines (Brings Serves) from self.old → Went E.refines (Brings Serves) from self.new }
     {
         self.guard.setup(packet);
         self.behind.setup(packet);
     }
 
     fn out(&mut self, packet: &[u8]) -> EpAnswer
-        ensures told { (pace : ℕ) (past : List GuardCall) → Guards E.stands pace past self.old.guard self.old.behind
-            → Guards E.stands pace (Met (Out packet.now result) ∷ past) self.new.guard self.new.behind }
-        ensures kept { (from : Guarded E) → Went E.stands (Brings Serves) from self.old → Went E.stands (Brings Serves) from self.new }
+        ensures reported { (pace : ℕ) (past : List GuardCall) → Guards E.refines pace past self.old.guard self.old.behind
+            → Guards E.refines pace (Met (Out packet.now result) ∷ past) self.new.guard self.new.behind }
+        ensures kept { (from : Guarded E) → Went E.refines (Brings Serves) from self.old → Went E.refines (Brings Serves) from self.new }
     {
         match self.guard.passage(packet) {
             Passage::Refuses => {
@@ -107,9 +107,9 @@ impl<E: Endpoints> Endpoints for Guarded<E> {
     }
 
     fn in_packet(&mut self) -> EpAnswer
-        ensures told { (pace : ℕ) (past : List GuardCall) → Guards E.stands pace past self.old.guard self.old.behind
-            → Guards E.stands pace (Met (In result) ∷ past) self.new.guard self.new.behind }
-        ensures kept { (from : Guarded E) → Went E.stands (Brings Serves) from self.old → Went E.stands (Brings Serves) from self.new }
+        ensures reported { (pace : ℕ) (past : List GuardCall) → Guards E.refines pace past self.old.guard self.old.behind
+            → Guards E.refines pace (Met (In result) ∷ past) self.new.guard self.new.behind }
+        ensures kept { (from : Guarded E) → Went E.refines (Brings Serves) from self.old → Went E.refines (Brings Serves) from self.new }
     {
         if self.guard.is_refused() {
             EpAnswer::Stall
@@ -119,17 +119,17 @@ impl<E: Endpoints> Endpoints for Guarded<E> {
     }
 
     fn poll(&mut self) -> Option<Report>
-        ensures told { (pace : ℕ) (past : List GuardCall) → Guards E.stands pace past self.old.guard self.old.behind
-            → Guards E.stands pace (Met (Polled (option_map (λ r. r.items) result)) ∷ past) self.new.guard self.new.behind }
-        ensures kept { (from : Guarded E) → Went E.stands (Brings Serves) from self.old → Went E.stands (Brings Serves) from self.new }
+        ensures reported { (pace : ℕ) (past : List GuardCall) → Guards E.refines pace past self.old.guard self.old.behind
+            → Guards E.refines pace (Met (Polled (option_map (λ r. r.items) result)) ∷ past) self.new.guard self.new.behind }
+        ensures kept { (from : Guarded E) → Went E.refines (Brings Serves) from self.old → Went E.refines (Brings Serves) from self.new }
     {
         self.behind.poll()
     }
 
     fn bus_reset(&mut self)
-        ensures told { (pace : ℕ) (past : List GuardCall) → Guards E.stands pace past self.old.guard self.old.behind
-            → Guards E.stands pace (Met BusReset ∷ past) self.new.guard self.new.behind }
-        ensures kept { (from : Guarded E) → Went E.stands (Brings Serves) from self.old → Went E.stands (Brings Serves) from self.new }
+        ensures reported { (pace : ℕ) (past : List GuardCall) → Guards E.refines pace past self.old.guard self.old.behind
+            → Guards E.refines pace (Met BusReset ∷ past) self.new.guard self.new.behind }
+        ensures kept { (from : Guarded E) → Went E.refines (Brings Serves) from self.old → Went E.refines (Brings Serves) from self.new }
     {
         self.guard.reset();
         self.behind.bus_reset();
@@ -137,30 +137,30 @@ impl<E: Endpoints> Endpoints for Guarded<E> {
 }
 
 impl<E: Works> Works for Guarded<E> {
-    ghost use Rattle.usb_device.specs.ties.Guarded.{Went};
+    ghost use Rattle.usb_device.specs.representation.Guarded.{Went};
 
-    ghost works = { λ g n. E.works g.behind n.behind × Went E.Endpoints.stands (Brings Else) g n };
+    ghost works = { λ g n. E.works g.behind n.behind × Went E.Endpoints.refines (Brings Else) g n };
 
     fn work(&mut self)
         ensures made { E.works self.old.behind self.new.behind }
-        ensures told { (pace : ℕ) (past : List GuardCall) → Guards E.Endpoints.stands pace past self.old.guard self.old.behind
-            → Guards E.Endpoints.stands pace past self.new.guard self.new.behind }
-        ensures went { Went E.Endpoints.stands (Brings Else) self.old self.new }
+        ensures reported { (pace : ℕ) (past : List GuardCall) → Guards E.Endpoints.refines pace past self.old.guard self.old.behind
+            → Guards E.Endpoints.refines pace past self.new.guard self.new.behind }
+        ensures went { Went E.Endpoints.refines (Brings Else) self.old self.new }
     {
         self.behind.work();
     }
 }
 
 impl<E: ScansMatrix> ScansMatrix for Guarded<E> {
-    ghost use Rattle.usb_device.specs.ties.Guarded.{Went};
+    ghost use Rattle.usb_device.specs.representation.Guarded.{Went};
 
-    ghost scans = { λ g rows n. E.scans g.behind rows n.behind × Went E.Endpoints.stands (Brings ScansRows) g n };
+    ghost scans = { λ g rows n. E.scans g.behind rows n.behind × Went E.Endpoints.refines (Brings ScansRows) g n };
 
     fn scan(&mut self, rows: [u16; 6])
         ensures made { E.scans self.old.behind rows self.new.behind }
-        ensures told { (pace : ℕ) (past : List GuardCall) → Guards E.Endpoints.stands pace past self.old.guard self.old.behind
-            → Guards E.Endpoints.stands pace (Scanned ∷ past) self.new.guard self.new.behind }
-        ensures went { Went E.Endpoints.stands (Brings ScansRows) self.old self.new }
+        ensures reported { (pace : ℕ) (past : List GuardCall) → Guards E.Endpoints.refines pace past self.old.guard self.old.behind
+            → Guards E.Endpoints.refines pace (Scanned ∷ past) self.new.guard self.new.behind }
+        ensures went { Went E.Endpoints.refines (Brings ScansRows) self.old self.new }
     {
         self.guard.scan();
         self.behind.scan(rows);

@@ -4,14 +4,14 @@
 //! device, with descriptors and names that a maker lends (`Descriptors`), and hands everything else on to the device behind
 //! it (`Endpoints`). `ControlBuffers` and `ReportBuffers` hand the packets of endpoints 0 and 1 to a controller beforehand
 //! (`Controller`, `Buffers`). `write` makes a whole control write and `read` a whole control read, for a stack that keeps endpoint 0 to
-//! itself. `Guarded` is a maker's lock and pace of feature commands (`guard_laws`), and `Forgetting` lets a host forget a report
+//! itself. `Guarded` is a maker's lock and pace of feature commands (`guard_theorems`), and `Forgetting` lets a host forget a report
 //! that was under way while the protocol was set. It takes no memory and needs no `unsafe`. Sections are those of USB 2.0.
 //!
 //! The guarantee: a control write that the host saw the end of was acknowledged, and then confirmed by the empty packet, in
-//! the session of the device behind, whatever acknowledgements were lost (`laws::confirmed_on_the_bus`); `usb_keyboard` leads
+//! the session of the device behind, whatever acknowledgements were lost (`theorems::confirmed_on_the_bus`); `usb_keyboard` leads
 //! on to the flash. Each answer of a standard request is that of tables 9-3 and 9-4 in the state that the
-//! events before give (`laws::endpoint_is_looked_back`). The host takes as new the reports of the device, each whole, in
-//! their order (`laws::reports_are_got_in_order`): once, and at least once where endpoint 1 begins anew, whatever data toggle
+//! events before give (`theorems::endpoint_is_looked_back`). The host takes as new the reports of the device, each whole, in
+//! their order (`theorems::reports_are_got_in_order`): once, and at least once where endpoint 1 begins anew, whatever data toggle
 //! the host then wants. A report that waits where the protocol is set is given up: each is of the protocol in which its first
 //! packet was handed over. The controller is told of each change of endpoint 1 before the host. Endpoint 1 waits at most 50 scans
 //! for a host that does not take a status packet. Nothing else is withheld.
@@ -32,9 +32,8 @@ mod device_layer;
 mod endpoints;
 mod forgetting;
 mod guard;
-pub mod guard_laws;
+pub mod guard_theorems;
 mod guarded;
-pub mod laws;
 mod packets;
 mod played_buffers;
 mod played_controller;
@@ -44,6 +43,7 @@ mod request;
 mod strings;
 #[cfg(test)]
 mod tests;
+pub mod theorems;
 mod usb_device;
 mod whole_reads;
 mod whole_transfers;

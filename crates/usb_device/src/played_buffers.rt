@@ -2,7 +2,7 @@
 
 ghost use Rattle.std.specs.Prelude.{◌≡◌, [], List, true, false, map, length, ◌≤◌};
 ghost use Rattle.usb_device.specs.Bus1.{agree, begun_if, blank, received};
-ghost use Rattle.usb_device.specs.ties.Played.{got_of, played_bus, Moved};
+ghost use Rattle.usb_device.specs.representation.Played.{got_of, played_bus, Moved};
 
 use crate::buffers::Buffers;
 use crate::report_buffers::held;

@@ -3,8 +3,8 @@
 ghost use Rattle.std.specs.Prelude.{◌≡◌, ◌≤◌, ◌∷◌, [], List, true, false, length, map};
 ghost use Rattle.usb_device.specs.Bus.{InGot, got, is_pending, nothing_met, Naks, NaksOut};
 ghost use Rattle.usb_device.specs.Addresses.{StaysBy};
-ghost use Rattle.usb_device.specs.ties.Link.{met_view};
-ghost use Rattle.usb_device.specs.ties.Played0.{seen_of, played_bus_0, address_by, Moved0};
+ghost use Rattle.usb_device.specs.representation.Link.{met_view};
+ghost use Rattle.usb_device.specs.representation.Played0.{seen_of, played_bus_0, address_by, Moved0};
 
 use crate::controller::{Controller, Input, Output, Waiting};
 use arrayvec::ArrayVec;
@@ -259,7 +259,7 @@ impl<'a> Controller for PlayedController<'a> {
         }
     }
 
-    #[tactic(auto, using(crate::proofs::Playing0::address_told))]
+    #[tactic(auto, using(crate::proofs::Playing0::address_reported))]
     fn set_address(&mut self, address: u8) {
         self.play();
         self.address = if self.met.reset { 0 } else { address };

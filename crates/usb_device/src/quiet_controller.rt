@@ -2,8 +2,8 @@
 
 ghost use Rattle.std.specs.Prelude.{◌≡◌, []};
 ghost use Rattle.usb_device.specs.Bus.{Bus, is_pending, mode_of, out_mode_of};
-ghost use Rattle.usb_device.specs.ties.Link.{met_view};
-ghost use Rattle.usb_device.specs.ties.Played0.{address_by};
+ghost use Rattle.usb_device.specs.representation.Link.{met_view};
+ghost use Rattle.usb_device.specs.representation.Played0.{address_by};
 
 use crate::controller::{Controller, Input, Output, Waiting};
 
@@ -56,7 +56,7 @@ impl Controller for QuietController {
         }
     }
 
-    #[tactic(auto, using(crate::proofs::Playing0::address_told))]
+    #[tactic(auto, using(crate::proofs::Playing0::address_reported))]
     fn set_address(&mut self, address: u8) {
         self.address = address;
     }

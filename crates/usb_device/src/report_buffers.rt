@@ -3,13 +3,13 @@
 ghost use Rattle.std.specs.Prelude.{◌≡◌, ◌⊎◌, ◌≤◌, ◌+◌, ◌-◌, ◌/◌, ◌∷◌, ℕ, ◌<◌, nat_lt, suc, length, Bool, true, false, List, [], take, drop, Some, ◌==◌, ◌&&◌};
 ghost use Rattle.usb_device.specs.declared.answer.Endpoint1.{Endpoint1};
 ghost use Rattle.usb_device.specs.Calls.{EpCall, SetUp, In, BusReset, Polled};
-ghost use Rattle.usb_device.specs.Bus1.{Bus1, room_of, told, anew, blank, Changed, sent_of, is_old, newest, sets_protocol};
+ghost use Rattle.usb_device.specs.Bus1.{Bus1, room_of, reported, anew, blank, Changed, sent_of, is_old, newest, sets_protocol};
 ghost use Rattle.usb_device.specs.Confirmed.{asked_of};
 ghost use Rattle.usb_device.specs.States.{is_empty_packet};
 ghost use Rattle.usb_device.specs.Reports.{count_of};
 ghost use Rattle.usb_device.specs.Waits.{Moment, Held, Scanned, Released};
-ghost use Rattle.usb_device.specs.ties.Waited.{Waited};
-ghost use Rattle.usb_device.specs.ties.Link1.{ReportState, Link1, to_hand, is_more, is_over, is_begun, is_under_way, IsHeld, InStep};
+ghost use Rattle.usb_device.specs.representation.Waited.{Waited};
+ghost use Rattle.usb_device.specs.representation.Link1.{ReportState, Link1, to_hand, is_more, is_over, is_begun, is_under_way, IsHeld, InStep};
 ghost use Rattle.usb_device.specs.declared.report_buffers.Course.TheVariants.{Rests, Begins, Goes};
 
 use crate::{Buffers, EpAnswer, PacketSize, Report};
@@ -56,7 +56,7 @@ pub struct ReportBuffers {
 }
 
 impl Model for ReportBuffers {
-    ghost use Rattle.usb_device.specs.ties.Link1.{ReportState, size_of};
+    ghost use Rattle.usb_device.specs.representation.Link1.{ReportState, size_of};
 
     ghost Value = { ReportState };
 
@@ -214,7 +214,7 @@ impl ReportBuffers {
     /// This was the answer to an IN token of endpoint 0. The empty packet of SET_PROTOCOL sets the protocol.
     pub fn answered<B: Buffers>(&mut self, answer: &EpAnswer, buffers: &mut B)
         ensures linked { (calls : List EpCall) → Link1 self.old (B.bus buffers.old) calls → Link1 self.new (B.bus buffers.new) (In answer.now ∷ calls) }
-        ensures told { (states : List Endpoint1) → InStep states (B.bus buffers.old) → InStep states (B.bus buffers.new) }
+        ensures reported { (states : List Endpoint1) → InStep states (B.bus buffers.old) → InStep states (B.bus buffers.new) }
         ensures waits { self.new.left ≡ self.old.left }
     {
         if self.is_change(answer) {
@@ -243,7 +243,7 @@ impl ReportBuffers {
         ensures linked { (calls later : List EpCall) → sent_of later ≡ Changed ∷ sent_of calls → asked_of later ≡ asked_of calls
             → Link1 self.old (B.bus buffers.old) calls → Link1 self.new (B.bus buffers.new) later }
         ensures goes_on { self.old.course ≡ Goes → is_begun self.old ≡ true → (self.new ≡ record self.old { old = true }) × (buffers.new ≡ buffers.old) }
-        ensures told { (states : List Endpoint1) → InStep states (B.bus buffers.old) → InStep states (B.bus buffers.new) }
+        ensures reported { (states : List Endpoint1) → InStep states (B.bus buffers.old) → InStep states (B.bus buffers.new) }
         ensures waits { self.new.left ≡ self.old.left }
     {
         match self.course {
@@ -264,7 +264,7 @@ impl ReportBuffers {
         ensures linked { (calls : List EpCall) → Link1 self.old (B.bus buffers.old) calls → Link1 self.new (B.bus buffers.new) calls }
         ensures none { self.new.course ≡ Goes → self.new.old ≡ false }
         ensures others { self.old.old ≡ false → (self.new ≡ self.old) × (buffers.new ≡ buffers.old) }
-        ensures told { (states : List Endpoint1) → InStep states (B.bus buffers.old) → InStep states (B.bus buffers.new) }
+        ensures reported { (states : List Endpoint1) → InStep states (B.bus buffers.old) → InStep states (B.bus buffers.new) }
     {
         match self.course {
             Course::Goes => {
@@ -282,7 +282,7 @@ impl ReportBuffers {
             → ((self.old.course ≡ Goes → is_old (sent_of calls) ≡ self.old.old) → is_old (sent_of later) ≡ true)
             → newest (sent_of later) ≡ newest (sent_of calls) → asked_of later ≡ asked_of calls
             → Link1 self.old (B.bus buffers.old) calls → Link1 self.new (B.bus buffers.new) later }
-        ensures told { (states : List Endpoint1) → InStep states (B.bus buffers.old) → InStep states (B.bus buffers.new) }
+        ensures reported { (states : List Endpoint1) → InStep states (B.bus buffers.old) → InStep states (B.bus buffers.new) }
         ensures waits { self.new.left ≡ self.old.left }
         ensures rests { self.new.course ≡ Rests }
     {
@@ -316,10 +316,10 @@ impl ReportBuffers {
         self.waits = 0;
     }
 
-    /// So many packets were taken since this was told before.
+    /// So many packets were taken since this was reported before.
     pub fn taken(&mut self, count: usize)
         ensures linked { (b : Bus1) (calls : List EpCall) → b.taken ≡ count → Link1 self.old b calls
-            → Link1 self.new (told b) calls }
+            → Link1 self.new (reported b) calls }
         ensures waits { self.new.left ≡ self.old.left }
     {
         self.buffered = self.buffered.saturating_sub(count);
@@ -387,7 +387,7 @@ impl ReportBuffers {
     pub fn fill<B: Buffers>(&mut self, buffers: &mut B)
         ensures linked { (calls : List EpCall) → Link1 self.old (B.bus buffers.old) calls → Link1 self.new (B.bus buffers.new) calls }
         ensures held { (self.new.course ≡ Goes) × IsHeld (room_of B.two) self.new ⊎ (self.old.course ≡ Rests) × (buffers.new ≡ buffers.old) × (self.new ≡ self.old) }
-        ensures told { (states : List Endpoint1) (calls : List EpCall) → Link1 self.old (B.bus buffers.old) calls
+        ensures reported { (states : List Endpoint1) (calls : List EpCall) → Link1 self.old (B.bus buffers.old) calls
             → InStep states (B.bus buffers.old) → InStep states (B.bus buffers.new) }
         ensures waits { self.new.left ≡ self.old.left }
     {
@@ -410,7 +410,7 @@ impl ReportBuffers {
             → Link1 self.new (B.bus buffers.new) calls }
         ensures goes { self.new.course ≡ Goes }
         ensures one { self.new.buffered ≡ 1 }
-        ensures told { (states : List Endpoint1) (calls : List EpCall) → self.old.course ≡ Begins → Link1 self.old (B.bus buffers.old) calls
+        ensures reported { (states : List Endpoint1) (calls : List EpCall) → self.old.course ≡ Begins → Link1 self.old (B.bus buffers.old) calls
             → InStep states (B.bus buffers.old) → InStep states (B.bus buffers.new) }
         ensures waits { self.new.left ≡ self.old.left }
     {
@@ -428,7 +428,7 @@ impl ReportBuffers {
         ensures goes { self.new.course ≡ self.old.course }
         ensures none { IsHeld (room_of B.two) self.old → self.new ≡ self.old }
         ensures more { (self.new ≡ self.old) × IsHeld (room_of B.two) self.old ⊎ (self.new.buffered ≡ self.old.buffered + 1) }
-        ensures told { (states : List Endpoint1) (calls : List EpCall) → self.old.course ≡ Goes → Link1 self.old (B.bus buffers.old) calls
+        ensures reported { (states : List Endpoint1) (calls : List EpCall) → self.old.course ≡ Goes → Link1 self.old (B.bus buffers.old) calls
             → InStep states (B.bus buffers.old) → InStep states (B.bus buffers.new) }
         ensures waits { self.new.left ≡ self.old.left }
     {

@@ -2,7 +2,7 @@
 
 ghost use Rattle.std.specs.Prelude.{◌≡◌, ◌∷◌, [], ◌==◌, ◌&&◌};
 ghost use Rattle.usb_device.specs.Requests.{request_of, served, is_configured, is_halted, bit, names, device_status, remote_wakeup, interface_status, endpoint_status, halt, set_address, configuration, set_configuration, interface, set_interface, string, descriptor, hid_descriptor};
-ghost use Rattle.usb_device.specs.ties.Value.{fields_view, begun_view, lent_view};
+ghost use Rattle.usb_device.specs.representation.Value.{fields_view, begun_view, lent_view};
 
 use crate::descriptors::{Data, Descriptors};
 use crate::{Change, Endpoint1};

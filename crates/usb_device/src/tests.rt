@@ -27,7 +27,7 @@ fn bytes_of(number: u8, count: usize) -> Report {
 }
 
 impl Endpoints for Counts {
-    ghost stands = { λ calls c. Unit {0} };
+    ghost refines = { λ calls c. Unit {0} };
 
     fn setup(&mut self, _packet: [u8; 8]) {}
 

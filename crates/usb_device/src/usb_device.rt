@@ -11,10 +11,10 @@ ghost use Rattle.usb_device.specs.States.{wakes_by};
 ghost use Rattle.usb_device.specs.Through.{calls_of};
 ghost use Rattle.usb_device.specs.Transfers.{Idle, is_done};
 ghost use Rattle.usb_device.specs.Guarding.{GuardCall, Locked};
-ghost use Rattle.usb_device.specs.ties.Guarded.{Guards, guarded_stands};
-ghost use Rattle.usb_device.specs.ties.Stands.{StandsFor};
-ghost use Rattle.usb_device.specs.ties.Link1.{NothingWithheld, may_send};
-ghost use Rattle.usb_device.specs.ties.Layered.{Layered, Runs, is_ready, report_waits};
+ghost use Rattle.usb_device.specs.representation.Guarded.{Guards, guarded_refines};
+ghost use Rattle.usb_device.specs.representation.Relation.{Refines};
+ghost use Rattle.usb_device.specs.representation.Link1.{NothingWithheld, may_send};
+ghost use Rattle.usb_device.specs.representation.Layered.{Layered, Runs, is_ready, report_waits};
 
 use crate::buffers::Buffers;
 use crate::{
@@ -115,9 +115,9 @@ impl<'a, E: Endpoints, B: Buffers> UsbDevice<'a, E, B> {
         buffers: B,
         size: PacketSize,
     ) -> UsbDevice<'a, E, B>
-        ensures stands { (lent : Lent) → StandsFor lent [] layer.entry → E.stands [] behind → B.bus buffers ≡ blank false
+        ensures refines { (lent : Lent) → Refines lent [] layer.entry → E.refines [] behind → B.bus buffers ≡ blank false
             → (result.control ≡ Idle)
-            × Layered E.stands lent [] result.device.layer result.device.behind result.device.reports (B.bus result.device.buffers) }
+            × Layered E.refines lent [] result.device.layer result.device.behind result.device.reports (B.bus result.device.buffers) }
         ensures holds { result.device.behind ≡ behind }
     {
         UsbDevice {
@@ -129,8 +129,8 @@ impl<'a, E: Endpoints, B: Buffers> UsbDevice<'a, E, B> {
     /// A scan of the matrix, a millisecond after the one before.
     pub fn scan(&mut self)
         ensures runs { (b : Bus) (calls : List EpCall) (lent : Lent) (past : List Event)
-            → Runs E.stands self.old.control b calls lent past self.old.device.layer self.old.device.behind self.old.device.reports (B.bus self.old.device.buffers)
-            → Runs E.stands self.new.control b calls lent past self.new.device.layer self.new.device.behind self.new.device.reports (B.bus self.new.device.buffers) }
+            → Runs E.refines self.old.control b calls lent past self.old.device.layer self.old.device.behind self.old.device.reports (B.bus self.old.device.buffers)
+            → Runs E.refines self.new.control b calls lent past self.new.device.layer self.new.device.behind self.new.device.reports (B.bus self.new.device.buffers) }
         ensures waits { self.new.device.reports.left ≡ self.old.device.reports.left - 1 }
         ensures behind { self.new.device.behind ≡ self.old.device.behind }
     {
@@ -139,13 +139,13 @@ impl<'a, E: Endpoints, B: Buffers> UsbDevice<'a, E, B> {
 
     /// Takes what the controller has met, and fills its buffers.
     ///
-    /// What a host saw the end of is confirmed by the device behind (`laws::confirmed_on_the_bus`), and the host takes as new
-    /// the reports of the device behind, each whole, in their order (`laws::reports_are_got_in_order`). Nothing is withheld.
+    /// What a host saw the end of is confirmed by the device behind (`theorems::confirmed_on_the_bus`), and the host takes as new
+    /// the reports of the device behind, each whole, in their order (`theorems::reports_are_got_in_order`). Nothing is withheld.
     pub fn serve<C: Controller>(&mut self, controller: &mut C)
         ensures runs { (calls : List EpCall) (lent : Lent) (past : List Event)
-            → Runs E.stands self.old.control (C.bus controller.old) calls lent past self.old.device.layer self.old.device.behind self.old.device.reports (B.bus self.old.device.buffers)
+            → Runs E.refines self.old.control (C.bus controller.old) calls lent past self.old.device.layer self.old.device.behind self.old.device.reports (B.bus self.old.device.buffers)
             → (later : List EpCall) × (named : Lent) × (since : List Event)
-            × Runs E.stands self.new.control (C.bus controller.new) later named since self.new.device.layer self.new.device.behind self.new.device.reports (B.bus self.new.device.buffers)
+            × Runs E.refines self.new.control (C.bus controller.new) later named since self.new.device.layer self.new.device.behind self.new.device.reports (B.bus self.new.device.buffers)
             × NothingWithheld (may_send (is_ready self.new.device.layer.endpoint) self.new.device.reports.left) (room_of B.two) self.new.device.reports
             (B.bus self.new.device.buffers) (calls_of since)
             × Addressed (is_done self.new.control) self.new.device.layer.due (C.bus controller.new).met.reset calls later (C.address_of controller.old) (C.address_of controller.new)
@@ -162,8 +162,8 @@ impl<'a, E: Endpoints, B: Buffers> UsbDevice<'a, E, B> {
     /// packet and a reset of the bus end it.
     pub fn suspended(&mut self)
         ensures runs { (b : Bus) (calls : List EpCall) (lent : Lent) (past : List Event)
-            → Runs E.stands self.old.control b calls lent past self.old.device.layer self.old.device.behind self.old.device.reports (B.bus self.old.device.buffers)
-            → Runs E.stands self.new.control b calls lent (SuspendCame ∷ past) self.new.device.layer self.new.device.behind self.new.device.reports (B.bus self.new.device.buffers) }
+            → Runs E.refines self.old.control b calls lent past self.old.device.layer self.old.device.behind self.old.device.reports (B.bus self.old.device.buffers)
+            → Runs E.refines self.new.control b calls lent (SuspendCame ∷ past) self.new.device.layer self.new.device.behind self.new.device.reports (B.bus self.new.device.buffers) }
         ensures behind { self.new.device.behind ≡ self.old.device.behind }
     {
         self.device.suspend();
@@ -172,8 +172,8 @@ impl<'a, E: Endpoints, B: Buffers> UsbDevice<'a, E, B> {
     /// The bus goes on: the controller saw it resume (section 7.1.7.7).
     pub fn resumed(&mut self)
         ensures runs { (b : Bus) (calls : List EpCall) (lent : Lent) (past : List Event)
-            → Runs E.stands self.old.control b calls lent past self.old.device.layer self.old.device.behind self.old.device.reports (B.bus self.old.device.buffers)
-            → Runs E.stands self.new.control b calls lent (ResumeCame ∷ past) self.new.device.layer self.new.device.behind self.new.device.reports (B.bus self.new.device.buffers) }
+            → Runs E.refines self.old.control b calls lent past self.old.device.layer self.old.device.behind self.old.device.reports (B.bus self.old.device.buffers)
+            → Runs E.refines self.new.control b calls lent (ResumeCame ∷ past) self.new.device.layer self.new.device.behind self.new.device.reports (B.bus self.new.device.buffers) }
         ensures behind { self.new.device.behind ≡ self.old.device.behind }
     {
         self.device.resume();
@@ -185,10 +185,10 @@ impl<'a, E: Endpoints, B: Buffers> UsbDevice<'a, E, B> {
     /// The driver signals K for 1 to 15 ms, and not before the bus was idle for 5 ms.
     pub fn wakes(&mut self) -> bool
         ensures runs { (b : Bus) (calls : List EpCall) (lent : Lent) (past : List Event)
-            → Runs E.stands self.old.control b calls lent past self.old.device.layer self.old.device.behind self.old.device.reports (B.bus self.old.device.buffers)
-            → Runs E.stands self.new.control b calls lent (WakeAsked (report_waits self.old.device.layer self.old.device.reports) result ∷ past) self.new.device.layer self.new.device.behind self.new.device.reports (B.bus self.new.device.buffers) }
+            → Runs E.refines self.old.control b calls lent past self.old.device.layer self.old.device.behind self.old.device.reports (B.bus self.old.device.buffers)
+            → Runs E.refines self.new.control b calls lent (WakeAsked (report_waits self.old.device.layer self.old.device.reports) result ∷ past) self.new.device.layer self.new.device.behind self.new.device.reports (B.bus self.new.device.buffers) }
         ensures answer { (b : Bus) (calls : List EpCall) (lent : Lent) (past : List Event)
-            → Runs E.stands self.old.control b calls lent past self.old.device.layer self.old.device.behind self.old.device.reports (B.bus self.old.device.buffers)
+            → Runs E.refines self.old.control b calls lent past self.old.device.layer self.old.device.behind self.old.device.reports (B.bus self.old.device.buffers)
             → result ≡ wakes_by lent past (report_waits self.old.device.layer self.old.device.reports) }
         ensures behind { self.new.device.behind ≡ self.old.device.behind }
     {
@@ -198,7 +198,7 @@ impl<'a, E: Endpoints, B: Buffers> UsbDevice<'a, E, B> {
     /// The controller has the address once the host has the status packet that brings it.
     fn tell<C: Controller>(&self, controller: &mut C)
         ensures met { (steps : List Bus) × Goes steps (C.bus controller.old) (C.bus controller.new) }
-        ensures told { Tells (is_done self.now.control) self.now.device.layer.due (C.bus controller.old) (C.bus controller.new) (C.address_of controller.old) (C.address_of controller.new) }
+        ensures reported { Tells (is_done self.now.control) self.now.device.layer.due (C.bus controller.old) (C.bus controller.new) (C.address_of controller.old) (C.address_of controller.new) }
     {
         match self.device.address_due() {
             Some(address) if self.control.is_done() => controller.set_address(address),
@@ -208,9 +208,9 @@ impl<'a, E: Endpoints, B: Buffers> UsbDevice<'a, E, B> {
 
     /// Endpoint 1 goes on once the host has the status packet.
     fn settle(&mut self)
-        ensures stands { (lent : Lent) (past : List Event)
-            → Layered E.stands lent past self.old.device.layer self.old.device.behind self.old.device.reports (B.bus self.old.device.buffers)
-            → Layered E.stands lent past self.new.device.layer self.new.device.behind self.new.device.reports (B.bus self.new.device.buffers) }
+        ensures refines { (lent : Lent) (past : List Event)
+            → Layered E.refines lent past self.old.device.layer self.old.device.behind self.old.device.reports (B.bus self.old.device.buffers)
+            → Layered E.refines lent past self.new.device.layer self.new.device.behind self.new.device.reports (B.bus self.new.device.buffers) }
         ensures known { is_done self.old.control ≡ false → self.new ≡ self.old }
         ensures same { self.new.control ≡ self.old.control }
         ensures behind { self.new.device.behind ≡ self.old.device.behind }
@@ -226,8 +226,8 @@ impl<'a, E: Works, B: Buffers> UsbDevice<'a, E, B> {
     pub fn work(&mut self)
         ensures made { E.works self.old.device.behind self.new.device.behind }
         ensures runs { (b : Bus) (calls : List EpCall) (lent : Lent) (past : List Event)
-            → Runs E.Endpoints.stands self.old.control b calls lent past self.old.device.layer self.old.device.behind self.old.device.reports (B.bus self.old.device.buffers)
-            → Runs E.Endpoints.stands self.new.control b calls lent past self.new.device.layer self.new.device.behind self.new.device.reports (B.bus self.new.device.buffers) }
+            → Runs E.Endpoints.refines self.old.control b calls lent past self.old.device.layer self.old.device.behind self.old.device.reports (B.bus self.old.device.buffers)
+            → Runs E.Endpoints.refines self.new.control b calls lent past self.new.device.layer self.new.device.behind self.new.device.reports (B.bus self.new.device.buffers) }
     {
         self.device.behind.work();
     }
@@ -238,8 +238,8 @@ impl<'a, E: ScansMatrix, B: Buffers> UsbDevice<'a, E, B> {
     pub fn scan_rows(&mut self, rows: [u16; 6])
         ensures made { E.scans self.old.device.behind rows self.new.device.behind }
         ensures runs { (b : Bus) (calls : List EpCall) (lent : Lent) (past : List Event)
-            → Runs E.Endpoints.stands self.old.control b calls lent past self.old.device.layer self.old.device.behind self.old.device.reports (B.bus self.old.device.buffers)
-            → Runs E.Endpoints.stands self.new.control b calls lent past self.new.device.layer self.new.device.behind self.new.device.reports (B.bus self.new.device.buffers) }
+            → Runs E.Endpoints.refines self.old.control b calls lent past self.old.device.layer self.old.device.behind self.old.device.reports (B.bus self.old.device.buffers)
+            → Runs E.Endpoints.refines self.new.control b calls lent past self.new.device.layer self.new.device.behind self.new.device.reports (B.bus self.new.device.buffers) }
         ensures waits { self.new.device.reports.left ≡ self.old.device.reports.left - 1 }
     {
         self.scan();
@@ -250,12 +250,12 @@ impl<'a, E: ScansMatrix, B: Buffers> UsbDevice<'a, E, B> {
 impl<'a, E: Endpoints, B: Buffers> UsbDevice<'a, Guarded<E>, B> {
     /// Sets the lock of feature commands, or takes it away.
     pub fn set_locked(&mut self, on: bool)
-        ensures told { (pace : ℕ) (past : List GuardCall)
-            → Guards E.stands pace past self.old.device.behind.guard self.old.device.behind.behind
-            → Guards E.stands pace (Locked on ∷ past) self.new.device.behind.guard self.new.device.behind.behind }
+        ensures reported { (pace : ℕ) (past : List GuardCall)
+            → Guards E.refines pace past self.old.device.behind.guard self.old.device.behind.behind
+            → Guards E.refines pace (Locked on ∷ past) self.new.device.behind.guard self.new.device.behind.behind }
         ensures runs { (b : Bus) (calls : List EpCall) (lent : Lent) (past : List Event)
-            → Runs (guarded_stands E.stands) self.old.control b calls lent past self.old.device.layer self.old.device.behind self.old.device.reports (B.bus self.old.device.buffers)
-            → Runs (guarded_stands E.stands) self.new.control b calls lent past self.new.device.layer self.new.device.behind self.new.device.reports (B.bus self.new.device.buffers) }
+            → Runs (guarded_refines E.refines) self.old.control b calls lent past self.old.device.layer self.old.device.behind self.old.device.reports (B.bus self.old.device.buffers)
+            → Runs (guarded_refines E.refines) self.new.control b calls lent past self.new.device.layer self.new.device.behind self.new.device.reports (B.bus self.new.device.buffers) }
     {
         self.device.behind.set_locked(on);
     }

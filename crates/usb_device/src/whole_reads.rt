@@ -5,7 +5,7 @@ ghost use Rattle.usb_device.specs.declared.answer.EpAnswer.{EpAnswer as Answer};
 ghost use Rattle.usb_device.specs.Calls.{EpCall, Out};
 ghost use Rattle.usb_device.specs.Requests.{word_at};
 ghost use Rattle.usb_device.specs.WholeReads.{IsRead, FailsToRead};
-ghost use Rattle.usb_device.specs.ties.WholeReads.{Receives, NotReceived};
+ghost use Rattle.usb_device.specs.representation.WholeReads.{Receives, NotReceived};
 
 use crate::{Endpoints, EpAnswer, TransferError};
 use arrayvec::ArrayVec;
@@ -37,7 +37,7 @@ pub type ReadBytes = ArrayVec<u8, 104>;
 /// # }
 /// ```
 pub fn read<E: Endpoints>(device: &mut E, setup: [u8; 8]) -> Result<ReadBytes, TransferError>
-    ensures { (past : List EpCall) → E.stands past device.old → (since : List EpCall) × E.stands (since ++ past) device.new
+    ensures { (past : List EpCall) → E.refines past device.old → (since : List EpCall) × E.refines (since ++ past) device.new
         × MatchResult result (λ bytes. IsRead setup bytes.items since) (λ e. FailsToRead e setup since) }
 {
     let asked = length_of(setup);
@@ -60,7 +60,7 @@ fn length_of(setup: [u8; 8]) -> u16
 
 /// Asks for packets until one ends the read.
 fn receive<E: Endpoints>(device: &mut E, asked: usize) -> Result<ReadBytes, TransferError>
-    ensures { (past : List EpCall) → E.stands past device.old → (since : List EpCall) × E.stands (since ++ past) device.new
+    ensures { (past : List EpCall) → E.refines past device.old → (since : List EpCall) × E.refines (since ++ past) device.new
         × MatchResult result (λ bytes. Receives asked bytes.items since) (λ e. NotReceived e asked since) }
 {
     let mut bytes = ArrayVec::new();
@@ -81,7 +81,7 @@ fn receive<E: Endpoints>(device: &mut E, asked: usize) -> Result<ReadBytes, Tran
 
 /// Hands over the empty packet of the status stage.
 fn close<E: Endpoints>(device: &mut E, bytes: ReadBytes) -> Result<ReadBytes, TransferError>
-    ensures { (past : List EpCall) → E.stands past device.old → (answer : Answer) × E.stands (Out [] answer ∷ past) device.new
+    ensures { (past : List EpCall) → E.refines past device.old → (answer : Answer) × E.refines (Out [] answer ∷ past) device.new
         × MatchResult result (λ given. (given ≡ bytes) × (answer ≡ Answer.Ack)) (λ e. (e ≡ TransferError.Refused) × (answer ≢ Answer.Ack)) }
 {
     match device.out(&[]) {

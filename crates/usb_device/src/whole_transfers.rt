@@ -3,7 +3,7 @@
 ghost use Rattle.std.specs.Prelude.{◌≡◌, ◌++◌, ℕ, List, MatchResult};
 ghost use Rattle.usb_device.specs.Calls.{EpCall};
 ghost use Rattle.usb_device.specs.Whole.{FailedBy, IsWritten, data_status_of, status_of};
-ghost use Rattle.usb_device.specs.ties.Whole.{Gives, IsConfirmed, NotConfirmed};
+ghost use Rattle.usb_device.specs.representation.Whole.{Gives, IsConfirmed, NotConfirmed};
 
 use crate::{Endpoints, EpAnswer};
 use thiserror::Error;
@@ -16,7 +16,7 @@ pub trait Works: Endpoints {
     /// A step of this work, which is nothing to the bus.
     fn work(&mut self)
         ensures made { works self.old self.new }
-        ensures stands { (past : List EpCall) → Self.stands past self.old → Self.stands past self.new };
+        ensures refines { (past : List EpCall) → Self.refines past self.old → Self.refines past self.new };
 }
 
 /// Why a whole transfer failed.
@@ -60,7 +60,7 @@ pub fn write<E: Works>(
     bytes: &[u8],
     steps: u16,
 ) -> Result<(), TransferError>
-    ensures { (past : List EpCall) → E.stands past device.old → (since : List EpCall) × E.stands (since ++ past) device.new
+    ensures { (past : List EpCall) → E.refines past device.old → (since : List EpCall) × E.refines (since ++ past) device.new
         × MatchResult result (λ _. IsWritten setup bytes.now since) (λ e. FailedBy e steps setup bytes.now since) }
 {
     device.setup(setup);
@@ -112,7 +112,7 @@ pub fn status_of(answer: EpAnswer) -> Status
 
 /// Hands over the data of a write, if there are any.
 fn give<E: Endpoints>(device: &mut E, bytes: &[u8]) -> Status
-    ensures { (past : List EpCall) → E.stands past device.old → (since : List EpCall) × E.stands (since ++ past) device.new
+    ensures { (past : List EpCall) → E.refines past device.old → (since : List EpCall) × E.refines (since ++ past) device.new
         × Gives result bytes.now since }
 {
     if bytes.is_empty() {
@@ -124,7 +124,7 @@ fn give<E: Endpoints>(device: &mut E, bytes: &[u8]) -> Status
 
 /// Asks for the empty packet of the status stage.
 fn confirm<E: Works>(device: &mut E, steps: u16) -> Result<(), TransferError>
-    ensures { (past : List EpCall) → E.stands past device.old → (since : List EpCall) × E.stands (since ++ past) device.new
+    ensures { (past : List EpCall) → E.refines past device.old → (since : List EpCall) × E.refines (since ++ past) device.new
         × MatchResult result (λ _. IsConfirmed since) (λ e. NotConfirmed e steps since) }
 {
     for _step in 0..steps {

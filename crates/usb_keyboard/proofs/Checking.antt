@@ -27,8 +27,8 @@ use Rattle.keyboard.specs.Calls.{Call, SetUp, Out, In, image_after, keymap, Each
 use Rattle.keyboard.specs.Commands.{working, working_of}
 use Rattle.keyboard.specs.Endpoint.{ep_calls, stage_after, view_after}
 use Rattle.keyboard.specs.Fate.{Fate, works, settled, failed, fate_after, changes_by, ended_by_work}
-use Rattle.keyboard.specs.Feature.{Where, yes, no, ReadAnswer, FeatureAnswer, command_in}
-use Rattle.keyboard.specs.Lawful.{IsAnswered, IsLawful, OutAnswer}
+use Rattle.keyboard.specs.Feature.{Where, yes, no, ReadAnswer, FeatureAnswer, command_of_bytes}
+use Rattle.keyboard.specs.Conforming.{IsAnswered, IsConforming, OutAnswer}
 use Rattle.keyboard.specs.Single.{NoneFails}
 use Rattle.keyboard.proofs.Single.{out_once}
 use Rattle.keyboard.proofs.Standing.{ep_calls-out}
@@ -40,8 +40,8 @@ use Rattle.usb_device.specs.Whole.{data_status_of, status_of}
 use Rattle.usb_keyboard.specs.Checks.{without_data, ReportAnswer, RequestAnswer, WriteAnswer, IsChecked, FailsBy}
 use Rattle.usb_keyboard.specs.Plain.{plain}
 use Rattle.usb_keyboard.specs.Whole.{put_off, data_calls}
-use Rattle.usb_keyboard.specs.ties.Whole.{Gives, IsStatusStage, NotConfirmed}
-use Rattle.usb_keyboard.proofs.Ending.{accepted_setup, setup_not_waiting, first_waited, state_told, judged_state, Behind, stage_behind, behind_all, failed_fate, ended}
+use Rattle.usb_keyboard.specs.representation.Whole.{Gives, IsStatusStage, NotConfirmed}
+use Rattle.usb_keyboard.proofs.Ending.{accepted_setup, setup_not_waiting, first_waited, state_reported, checked_state, Behind, stage_behind, behind_all, failed_fate, ended}
 use Rattle.usb_keyboard.proofs.Reading.{reads_sized, first_packet}
 
 -- ---- the first stage of a transfer
@@ -137,7 +137,7 @@ module _ (defaults : DefaultCodes) where
   -- the transfer is at its status stage, or it brings a command
   data After (start : List ℕ) (base : List Call) : Type 0 where
     rests : stage_after defaults start base ≡ Status Nothing → After start base
-    brings : (changing : Bool) → Behind (ep_calls defaults start base) (state_told changing works) → After start base
+    brings : (changing : Bool) → Behind (ep_calls defaults start base) (state_reported changing works) → After start base
 
   behind_leds : (setup packet : List ℕ) (view : DeviceView) (more : List EpCall) (leds : ℕ) (report : HostReport) → transfer_of (request_of setup) view ≡ Ok (Takes report)
       → stage (EpOut packet (Leds leds) ∷ Setup setup view ∷ more) ≡ Status Nothing
@@ -157,17 +157,17 @@ module _ (defaults : DefaultCodes) where
       let before : List Call = SetUp setup ∷ past in
       let calls : List EpCall = ep_calls defaults start before in
       let entries : ℕ → ℕ → ℕ = keymap defaults (image_after start past) in
-      let changing : Bool = changes_by defaults entries (command_in (drop 1 packet)) in
+      let changing : Bool = changes_by defaults entries (command_of_bytes (drop 1 packet)) in
       let t : IsTaking FeatureData (first_stall (calls_since calls)) (last_setup calls) (progress_of (calls_since calls)) =
       taking_is FeatureData (first_stall (calls_since calls)) (last_setup calls) (progress_of (calls_since calls)) (sym due ∙ stage-is calls) in
-      let P : List EpCall → Type 0 = λ l. Behind l (state_told changing works) in
+      let P : List EpCall → Type 0 = λ l. Behind l (state_reported changing works) in
       brings changing
       (subst P (sym (ep_calls-out defaults start before packet Answers.Ack (Offer (drop 1 packet)) offer))
       (record {
         size = t.length;
         begins = t.begins;
         taken = refl;
-        command = judged_state changing setup packet (drop 1 packet) (view_after defaults start past) (ep_calls defaults start past);
+        command = checked_state changing setup packet (drop 1 packet) (view_after defaults start past) (ep_calls defaults start past);
         unstalled = refl;
         unconfirmed = refl;
       }))
@@ -236,7 +236,7 @@ module _ (defaults : DefaultCodes) where
       by_after made l f (brings changing b) =
           not_gone changing (fate_after defaults (put_off made)) (none_failed made f)
           (failed_fate defaults changing (fate_after defaults (put_off made)) answer
-          (l.0 ∙ ap in_answer (stage_behind (ep_calls defaults start (put_off made ++ Out (byte ∷ rest) Answers.Ack ∷ SetUp setup ∷ past)) (state_told changing (fate_after defaults (put_off made))) (behind_all defaults start made (Out (byte ∷ rest) Answers.Ack ∷ SetUp setup ∷ past) changing b))) s)
+          (l.0 ∙ ap in_answer (stage_behind (ep_calls defaults start (put_off made ++ Out (byte ∷ rest) Answers.Ack ∷ SetUp setup ∷ past)) (state_reported changing (fate_after defaults (put_off made))) (behind_all defaults start made (Out (byte ∷ rest) Answers.Ack ∷ SetUp setup ∷ past) changing b))) s)
 
   -- ---- how it ends
 
@@ -256,7 +256,7 @@ module _ (defaults : DefaultCodes) where
 
   no_offer : (image : List ℕ) (busy : Bool) (bytes : List ℕ) (packet : ArrayVec ℕ) → FeatureAnswer defaults image busy bytes (Answers.Packet packet) → ⊥
   no_offer image busy bytes packet a =
-      no_packet (λ e. (cc)) (no_packet (no_select (nat_lt (slice_index bytes 1) layers) (nat_lt (slice_index bytes 2) keys) packet) (no_read image (command_in bytes) packet)) a
+      no_packet (λ e. (cc)) (no_packet (no_select (nat_lt (slice_index bytes 1) layers) (nat_lt (slice_index bytes 2) keys) packet) (no_read image (command_of_bytes bytes) packet)) a
 
   no_report : (image : List ℕ) (busy : Bool) (report : HostReport) (data_ : List ℕ) (got : Result OutStep Why) (packet : ArrayVec ℕ) → received_report report data_ ≡ got
       → OutAnswer defaults (report_step got) image busy (Answers.Packet packet) → ⊥
@@ -280,7 +280,7 @@ module _ (defaults : DefaultCodes) where
       → IsChecked defaults start past setup (byte ∷ rest) answer
   data_checked start past setup byte rest answer a = checked start past setup (byte ∷ rest) answer (data_answer start past setup byte rest answer a)
 
-  pub put_off_checked : (start : List ℕ) (past : List Call) (setup data_ : List ℕ) (since : List Call) (healthy : Type 0) → Gives Waits data_ since → IsLawful defaults start (since ++ SetUp setup ∷ past)
+  pub put_off_checked : (start : List ℕ) (past : List Call) (setup data_ : List ℕ) (since : List Call) (healthy : Type 0) → Gives Waits data_ since → IsConforming defaults start (since ++ SetUp setup ∷ past)
       → (answer : Answer) × IsChecked defaults start past setup data_ answer × FailsBy Busy answer healthy
   put_off_checked start past setup [] since healthy g h = absurd g.0
   put_off_checked start past setup (byte ∷ rest) since healthy g h =
@@ -288,7 +288,7 @@ module _ (defaults : DefaultCodes) where
       let here : EachCall (IsAnswered defaults) start (Out (byte ∷ rest) Answers.Nak ∷ SetUp setup ∷ past) = subst P g.1 h in
       (Answers.Nak, data_checked start past setup byte rest Answers.Nak here.0, tt)
 
-  pub refused_checked : (start : List ℕ) (past : List Call) (setup data_ : List ℕ) (since : List Call) (healthy : Type 0) → Gives Refuses data_ since → IsLawful defaults start (since ++ SetUp setup ∷ past)
+  pub refused_checked : (start : List ℕ) (past : List Call) (setup data_ : List ℕ) (since : List Call) (healthy : Type 0) → Gives Refuses data_ since → IsConforming defaults start (since ++ SetUp setup ∷ past)
       → (answer : Answer) × IsChecked defaults start past setup data_ answer × FailsBy Refused answer healthy
   refused_checked start past setup [] since healthy g h = absurd g.0
   refused_checked start past setup (byte ∷ rest) since healthy g h =
@@ -336,7 +336,7 @@ module _ (defaults : DefaultCodes) where
       (Answers.Ack, data_checked start past setup byte rest Answers.Ack here.0, λ x. never_refused start past setup byte rest answer steps s h (n x))
 
   pub taken_checked : {U : Type 0} (start : List ℕ) (past : List Call) (setup data_ : List ℕ) (taken status : List Call) (result : Result U TransferError) (healthy : Type 0) → Gives Done data_ taken
-      → IsLawful defaults start (status ++ (taken ++ SetUp setup ∷ past)) → MatchResult result (λ _. IsStatusStage status) (λ e. NotConfirmed defaults start (taken ++ SetUp setup ∷ past) e status) → (healthy → NoneFails status)
+      → IsConforming defaults start (status ++ (taken ++ SetUp setup ∷ past)) → MatchResult result (λ _. IsStatusStage status) (λ e. NotConfirmed defaults start (taken ++ SetUp setup ∷ past) e status) → (healthy → NoneFails status)
       → (answer : Answer) × IsChecked defaults start past setup data_ answer × MatchResult result (λ _. answer ≡ Answers.Ack) (λ e. FailsBy e answer healthy)
   taken_checked start past setup data_ taken status (Ok u) healthy t h m n =
       let is : status ++ (taken ++ SetUp setup ∷ past) ≡ confirmation ∷ put_off m.0 ++ (data_calls data_ ++ SetUp setup ∷ past) =

@@ -8,7 +8,7 @@ use Rattle.control_ep.specs.declared.answer.EpAnswer.TheVariants as Answers
 use Rattle.usb_device.specs.Confirmed.{asked_of, taken_of, WasConfirmed}
 use Rattle.keyboard.specs.Calls.{Call, Scanned, SetUp, Out, In, Polled, Worked, BusReset, setup_of}
 use Rattle.keyboard.specs.Effects.{report_named}
-use Rattle.keyboard.specs.Feature.{command_in}
+use Rattle.keyboard.specs.Feature.{command_of_bytes}
 use Rattle.keyboard.specs.Commands.{accepts}
 use Rattle.keyboard.specs.Acknowledged.{confirmation, SameTransfer, IsConfirmed}
 use Rattle.usb_keyboard.specs.Plain.{usb_calls}
@@ -82,12 +82,12 @@ taken_at (Worked work image ∷ rest) setup data_ a t = let f = taken_at rest se
 taken_at (BusReset ∷ rest) setup data_ a t = absurd (let e = t in cc)
 
 pub accepted_by : (before : List Call) (setup data_ : List ℕ) (command : Command) → setup_of before ≡ Some setup → report_named (Some setup) ≡ Some FeatureData
-    → result_ok (command_in (drop 1 data_)) ≡ Some command → accepts before (Out data_ Answers.Ack) ≡ Some command
+    → result_ok (command_of_bytes (drop 1 data_)) ≡ Some command → accepts before (Out data_ Answers.Ack) ≡ Some command
 unfolding accepts
 accepted_by before setup data_ command s n c = rw (s, n) c
 
 pub confirmed : (past : List Call) (setup data_ : List ℕ) (command : Command) → WasConfirmed setup data_ (usb_calls past) → report_named (Some setup) ≡ Some FeatureData
-    → result_ok (command_in (drop 1 data_)) ≡ Some command → (before : List Call) × IsConfirmed past before command
+    → result_ok (command_of_bytes (drop 1 data_)) ≡ Some command → (before : List Call) × IsConfirmed past before command
 confirmed past setup data_ command w n c =
     let f = found past setup data_ w in
     let t = taken_at f.rest setup data_ f.asked f.taken in

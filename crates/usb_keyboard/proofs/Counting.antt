@@ -14,7 +14,7 @@ use Rattle.usb_device.specs.Guarding.{is_feature, writes, is_command, one_if, co
 use Rattle.keyboard.specs.Calls.{Call, Scanned, SetUp, Out, In, Polled, Worked, BusReset, setup_of, image_after, keymap}
 use Rattle.keyboard.specs.Commands.{Accepted, accepts, accepted, accepted_with, accepted_before, command_in_report}
 use Rattle.keyboard.specs.Effects.{report_of_value, report_named}
-use Rattle.keyboard.specs.Feature.{command_in}
+use Rattle.keyboard.specs.Feature.{command_of_bytes}
 use Rattle.usb_keyboard.specs.Plain.{usb_calls}
 use Rattle.usb_keyboard.proofs.Confirming.{asked_setup}
 
@@ -54,13 +54,13 @@ second : (packet : List ℕ) → slice_index (drop 1 packet) 0 ≡ slice_index p
 second [] = refl
 second (x ∷ rest) = refl
 
-writes_read : (packet : List ℕ) (command : Command) → result_ok (command_in (drop 1 packet)) ≡ Some command → writes packet ≡ true
+writes_read : (packet : List ℕ) (command : Command) → result_ok (command_of_bytes (drop 1 packet)) ≡ Some command → writes packet ≡ true
 writes_read packet command e =
     let b = operation_by (is_between 1 3 (slice_index (drop 1 packet) 0)) _ _ command e in
     ap (λ (n : ℕ). nat_lt 0 n && nat_lt n 4) (sym (second packet)) ∙ writes_by (slice_index (drop 1 packet) 0) b
 
 no_command : (packet : List ℕ) (command : Command) (report : Option HostReport)
-    → command_in_report (option_map (λ (r : HostReport). record { report = r; bytes = packet }) report) ≡ Some command → (report ≡ Some FeatureData) × (result_ok (command_in (drop 1 packet)) ≡ Some command)
+    → command_in_report (option_map (λ (r : HostReport). record { report = r; bytes = packet }) report) ≡ Some command → (report ≡ Some FeatureData) × (result_ok (command_of_bytes (drop 1 packet)) ≡ Some command)
 no_command packet command None e = cc
 no_command packet command (Some LedsWithId) e = cc
 no_command packet command (Some LedsAlone) e = cc

@@ -14,7 +14,7 @@ use Rattle.control_ep.specs.declared.answer.EpAnswer.TheVariants as Answers
 use Rattle.control_ep.specs.declared.answer.OutStep.{OutStep}
 use Rattle.control_ep.specs.declared.answer.OutStep.TheVariants.{Answered, Leds, Offer}
 use Rattle.control_ep.specs.Answers.{in_answer, out_step, packet_or_stall, received_report, report_step, content}
-use Rattle.control_ep.specs.Calls.{EpCall, Setup, Judged, Out as EpOut}
+use Rattle.control_ep.specs.Calls.{EpCall, Setup, Checked, Out as EpOut}
 use Rattle.control_ep.specs.Packets.{packet_at}
 use Rattle.control_ep.specs.Stage.{Begins, calls_since, last_setup, first_stall, acknowledges, is_empty_in, command_state, CommandState, NoCommand, Works, Settled, Failed, state_after, progress_of, after_command, stage}
 use Rattle.control_ep.specs.Transfers.{HostReport, LedsWithId, LedsAlone, FeatureData, Takes, Stage, Rest, Sending, Taking, Waiting, Status, Stalled}
@@ -27,10 +27,10 @@ use Rattle.keyboard.specs.Bounded.{steps_since}
 use Rattle.keyboard.specs.Calls.{Call, SetUp, Out, In, Worked, setup_of, image_after, keymap, EachCall}
 use Rattle.keyboard.specs.Commands.{Accepted, accepted, accepted_with, accepts, if_works, working, working_of}
 use Rattle.keyboard.specs.Effects.{report_named}
-use Rattle.keyboard.specs.Endpoint.{ep_calls, stage_after, view_after, verdict_told, with_out}
+use Rattle.keyboard.specs.Endpoint.{ep_calls, stage_after, view_after, verdict_reported, with_out}
 use Rattle.keyboard.specs.Fate.{Fate, works, settled, failed, fate, fate_after, changes, changes_by, ended_by}
-use Rattle.keyboard.specs.Feature.{command_in}
-use Rattle.keyboard.specs.Lawful.{IsAnswered, IsLawful, OutAnswer}
+use Rattle.keyboard.specs.Feature.{command_of_bytes}
+use Rattle.keyboard.specs.Conforming.{IsAnswered, IsConforming, OutAnswer}
 use Rattle.keyboard.proofs.Accepting.{end_with, accepted-more, accepted-same, ended_by-failed, ended_by-idle, ended_by-settled, ended_by-working, map-end_none, fate-more}
 use Rattle.keyboard.proofs.Bounding.{steps_since-more, steps_since-none, steps_since-same}
 use Rattle.keyboard.proofs.Effects.{Effect, stays, takes, settles, fails, effect, ends_none_out, accepts-work, Accepts, accepted_by}
@@ -43,7 +43,7 @@ use Rattle.usb_device.specs.declared.whole_transfers.Status.TheVariants.{Refuses
 use Rattle.usb_device.specs.Whole.{data_status_of, status_of}
 use Rattle.usb_keyboard.specs.Plain.{plain}
 use Rattle.usb_keyboard.specs.Whole.{put_off, data_calls, in_status, Fails, HasNoEffect, none_accepted, has_failed}
-use Rattle.usb_keyboard.specs.ties.Whole.{WasInTime, NotConfirmed}
+use Rattle.usb_keyboard.specs.representation.Whole.{WasInTime, NotConfirmed}
 use Rattle.usb_keyboard.proofs.Confirming as confirming
 
 pub same_transfer : (steps : List (Work × List ℕ)) → SameTransfer (put_off steps)
@@ -114,11 +114,11 @@ offered_feature setup (Status x) byte bytes offered s o = cc
 offered_feature setup (Stalled why) byte bytes offered s o = cc
 
 -- it works because the report brings one
-by_judged : (setup data_ offered : List ℕ) (view : DeviceView) (more : List EpCall) (changing : Bool)
-    → stage (Judged (verdict_told changing Answers.Ack) Answers.Ack ∷ EpOut data_ (Offer offered) ∷ Setup setup view ∷ more) ≡ Waiting → changing ≡ true
-by_judged setup data_ offered view more true e = refl
-by_judged setup data_ offered view more false e =
-    let calls : List EpCall = Judged (verdict_told false Answers.Ack) Answers.Ack ∷ EpOut data_ (Offer offered) ∷ Setup setup view ∷ more in
+by_checked : (setup data_ offered : List ℕ) (view : DeviceView) (more : List EpCall) (changing : Bool)
+    → stage (Checked (verdict_reported changing Answers.Ack) Answers.Ack ∷ EpOut data_ (Offer offered) ∷ Setup setup view ∷ more) ≡ Waiting → changing ≡ true
+by_checked setup data_ offered view more true e = refl
+by_checked setup data_ offered view more false e =
+    let calls : List EpCall = Checked (verdict_reported false Answers.Ack) Answers.Ack ∷ EpOut data_ (Offer offered) ∷ Setup setup view ∷ more in
     let w = waiting_is (first_stall (calls_since calls)) (last_setup calls) (progress_of (calls_since calls)) (sym e ∙ stage-is calls) in
     absurd (let works_ = w.works in cc)
 
@@ -134,11 +134,11 @@ module _ (defaults : DefaultCodes) where
   ok_of entries (Err error) e = cc
 
   by_step : (setup data_ : List ℕ) (view : DeviceView) (more : List EpCall) (entries : ℕ → ℕ → ℕ) (step : OutStep) → stage (with_out defaults step data_ entries Answers.Ack (Setup setup view ∷ more)) ≡ Waiting
-      → (offered : List ℕ) × (command : Command) × (Offer offered ≡ step) × (command_in offered ≡ Ok command)
+      → (offered : List ℕ) × (command : Command) × (Offer offered ≡ step) × (command_of_bytes offered ≡ Ok command)
   by_step setup data_ view more entries (Answered answer) e = absurd (not_by_step setup data_ view more (Answered answer) e)
   by_step setup data_ view more entries (Leds leds) e = absurd (not_by_step setup data_ view more (Leds leds) e)
   by_step setup data_ view more entries (Offer offered) e =
-      let o = ok_of entries (command_in offered) (by_judged setup data_ offered view more (changes_by defaults entries (command_in offered)) e) in
+      let o = ok_of entries (command_of_bytes offered) (by_checked setup data_ offered view more (changes_by defaults entries (command_of_bytes offered)) e) in
       (offered, o.0, refl, o.1)
 
   pub setup_not_waiting : (start : List ℕ) (past : List Call) (setup : List ℕ) → stage_after defaults start (SetUp setup ∷ past) ≡ Waiting → ⊥
@@ -156,7 +156,7 @@ module _ (defaults : DefaultCodes) where
       let step : OutStep = out_step (stage_after defaults start before) (byte ∷ bytes) in
       let s = by_step setup (byte ∷ bytes) _ (ep_calls defaults start past) (keymap defaults (image_after start past)) step (ap stage (sym (ep_calls-out defaults start before (byte ∷ bytes) Answers.Ack step refl)) ∙ e) in
       let f = offered_feature (setup_of before) (stage_after defaults start before) byte bytes s.0 (serves defaults start before) s.2 in
-      (s.1, confirming.accepted_by before setup (byte ∷ bytes) s.1 refl f.0 (ap (λ x. result_ok (command_in x)) f.1 ∙ ap result_ok s.3))
+      (s.1, confirming.accepted_by before setup (byte ∷ bytes) s.1 refl f.0 (ap (λ x. result_ok (command_of_bytes x)) f.1 ∙ ap result_ok s.3))
 
   waited : (start : List ℕ) (step : Work × List ℕ) (before : List (Work × List ℕ)) (base : List Call) → EachCall (IsAnswered defaults) start (put_off (step ∷ before) ++ base)
       → stage_after defaults start (put_off before ++ base) ≡ Waiting
@@ -200,11 +200,11 @@ none_by (Some command) n = absurd (n refl)
 -- ---- the stage behind the packet of a command
 
 -- what the endpoint knows of a command, by what became of it
-abbrev pub state_told : Bool → Fate → CommandState
-state_told false f = NoCommand
-state_told true works = Works
-state_told true settled = Settled
-state_told true failed = Failed
+abbrev pub state_reported : Bool → Fate → CommandState
+state_reported false f = NoCommand
+state_reported true works = Works
+state_reported true settled = Settled
+state_reported true failed = Failed
 
 -- the feature report was taken, no packet was stalled, and the empty packet was not given
 pub record Behind (calls : List EpCall) (state : CommandState) : Type 0 where
@@ -218,10 +218,10 @@ pub record Behind (calls : List EpCall) (state : CommandState) : Type 0 where
 pub stage_behind : (calls : List EpCall) (state : CommandState) → Behind calls state → stage calls ≡ after_command state false
 stage_behind calls state b = stage-is calls ∙ rw (b.begins, b.taken, b.command, b.unstalled, b.unconfirmed) refl
 
-pub judged_state : (changing : Bool) (setup data_ offered : List ℕ) (view : DeviceView) (more : List EpCall)
-    → command_state (calls_since (Judged (verdict_told changing Answers.Ack) Answers.Ack ∷ EpOut data_ (Offer offered) ∷ Setup setup view ∷ more)) ≡ state_told changing works
-judged_state true setup data_ offered view more = refl
-judged_state false setup data_ offered view more = refl
+pub checked_state : (changing : Bool) (setup data_ offered : List ℕ) (view : DeviceView) (more : List EpCall)
+    → command_state (calls_since (Checked (verdict_reported changing Answers.Ack) Answers.Ack ∷ EpOut data_ (Offer offered) ∷ Setup setup view ∷ more)) ≡ state_reported changing works
+checked_state true setup data_ offered view more = refl
+checked_state false setup data_ offered view more = refl
 
 -- a feature report that was acknowledged was due, and offered
 record Due (now : Stage) (packet : List ℕ) : Type 0 where
@@ -245,7 +245,7 @@ module _ (defaults : DefaultCodes) where
   is_due image busy setup packet (Stalled why) s n a = cc
 
   behind_data : (start : List ℕ) (past : List Call) (setup data_ : List ℕ) (command : Command) → accepts (SetUp setup ∷ past) (Out data_ Answers.Ack) ≡ Some command → IsAnswered defaults start (SetUp setup ∷ past) (Out data_ Answers.Ack)
-      → Behind (ep_calls defaults start (Out data_ Answers.Ack ∷ SetUp setup ∷ past)) (state_told (changes defaults (keymap defaults (image_after start past)) command) works)
+      → Behind (ep_calls defaults start (Out data_ Answers.Ack ∷ SetUp setup ∷ past)) (state_reported (changes defaults (keymap defaults (image_after start past)) command) works)
   unfolding ep_calls
   behind_data start past setup data_ command e a =
       let before : List Call = SetUp setup ∷ past in
@@ -256,15 +256,15 @@ module _ (defaults : DefaultCodes) where
       is_due (image_after start before) (is_some (working defaults start before)) (setup_of before) data_ (stage_after defaults start before) (serves defaults start before) by.names a in
       let t : IsTaking FeatureData (first_stall (calls_since calls)) (last_setup calls) (progress_of (calls_since calls)) =
       taking_is FeatureData (first_stall (calls_since calls)) (last_setup calls) (progress_of (calls_since calls)) (sym d.due ∙ stage-is calls) in
-      let state : CommandState = state_told (changes defaults entries command) works in
+      let state : CommandState = state_reported (changes defaults entries command) works in
       let P : List EpCall → Type 0 = λ l. Behind l state in
       subst P (sym (ep_calls-out defaults start before data_ Answers.Ack (Offer (drop 1 data_)) d.offer))
       (record {
         size = t.length;
         begins = t.begins;
         taken = refl;
-        command = judged_state (changes_by defaults entries (command_in (drop 1 data_))) setup data_ (drop 1 data_) (view_after defaults start past) (ep_calls defaults start past)
-            ∙ ap (λ (r : Result Command KeymapError). state_told (changes_by defaults entries r) works) by.reads;
+        command = checked_state (changes_by defaults entries (command_of_bytes (drop 1 data_))) setup data_ (drop 1 data_) (view_after defaults start past) (ep_calls defaults start past)
+            ∙ ap (λ (r : Result Command KeymapError). state_reported (changes_by defaults entries r) works) by.reads;
         unstalled = refl;
         unconfirmed = refl;
       })
@@ -272,26 +272,26 @@ module _ (defaults : DefaultCodes) where
   with_state : (calls : List EpCall) (state other : CommandState) → state ≡ other → Behind calls state → Behind calls other
   with_state calls state other e b = (let P : CommandState → Type 0 = λ x. Behind calls x in subst P e b)
 
-  settled_state : (changing : Bool) (f : Fate) (image : List ℕ) → state_after (state_told changing f) Settled ≡ state_told changing (ended_by defaults (Worked Answer_of.Settled image) f)
+  settled_state : (changing : Bool) (f : Fate) (image : List ℕ) → state_after (state_reported changing f) Settled ≡ state_reported changing (ended_by defaults (Worked Answer_of.Settled image) f)
   settled_state false f image = refl
   settled_state true works image = refl
   settled_state true settled image = refl
   settled_state true failed image = refl
 
-  failed_state : (changing : Bool) (f : Fate) (image : List ℕ) → state_after (state_told changing f) Failed ≡ state_told changing (ended_by defaults (Worked Answer_of.Failed image) f)
+  failed_state : (changing : Bool) (f : Fate) (image : List ℕ) → state_after (state_reported changing f) Failed ≡ state_reported changing (ended_by defaults (Worked Answer_of.Failed image) f)
   failed_state false f image = refl
   failed_state true works image = refl
   failed_state true settled image = refl
   failed_state true failed image = refl
 
-  behind_more : (start : List ℕ) (past : List Call) (changing : Bool) (f : Fate) (work : Work) (image : List ℕ) → Behind (ep_calls defaults start past) (state_told changing f)
-      → Behind (ep_calls defaults start (Worked work image ∷ In Answers.Nak ∷ past)) (state_told changing (ended_by defaults (Worked work image) f))
+  behind_more : (start : List ℕ) (past : List Call) (changing : Bool) (f : Fate) (work : Work) (image : List ℕ) → Behind (ep_calls defaults start past) (state_reported changing f)
+      → Behind (ep_calls defaults start (Worked work image ∷ In Answers.Nak ∷ past)) (state_reported changing (ended_by defaults (Worked work image) f))
   unfolding ep_calls
   behind_more start past changing f Answer_of.Idle image b =
-      with_state (ep_calls defaults start (In Answers.Nak ∷ past)) (state_told changing f) (state_told changing (ended_by defaults (Worked Answer_of.Idle image) f)) (ap (state_told changing) (sym (ended_by-idle defaults image f)))
+      with_state (ep_calls defaults start (In Answers.Nak ∷ past)) (state_reported changing f) (state_reported changing (ended_by defaults (Worked Answer_of.Idle image) f)) (ap (state_reported changing) (sym (ended_by-idle defaults image f)))
       (record { size = b.size; begins = b.begins; taken = b.taken; command = b.command; unstalled = rw b.unstalled refl; unconfirmed = b.unconfirmed })
   behind_more start past changing f Answer_of.Working image b =
-      with_state (ep_calls defaults start (In Answers.Nak ∷ past)) (state_told changing f) (state_told changing (ended_by defaults (Worked Answer_of.Working image) f)) (ap (state_told changing) (sym (ended_by-working defaults image f)))
+      with_state (ep_calls defaults start (In Answers.Nak ∷ past)) (state_reported changing f) (state_reported changing (ended_by defaults (Worked Answer_of.Working image) f)) (ap (state_reported changing) (sym (ended_by-working defaults image f)))
       (record { size = b.size; begins = b.begins; taken = b.taken; command = b.command; unstalled = rw b.unstalled refl; unconfirmed = b.unconfirmed })
   behind_more start past changing f Answer_of.Settled image b = record {
     size = b.size;
@@ -310,8 +310,8 @@ module _ (defaults : DefaultCodes) where
     unconfirmed = b.unconfirmed;
   }
 
-  pub behind_all : (start : List ℕ) (steps : List (Work × List ℕ)) (base : List Call) (changing : Bool) → Behind (ep_calls defaults start base) (state_told changing works)
-      → Behind (ep_calls defaults start (put_off steps ++ base)) (state_told changing (fate_after defaults (put_off steps)))
+  pub behind_all : (start : List ℕ) (steps : List (Work × List ℕ)) (base : List Call) (changing : Bool) → Behind (ep_calls defaults start base) (state_reported changing works)
+      → Behind (ep_calls defaults start (put_off steps ++ base)) (state_reported changing (fate_after defaults (put_off steps)))
   behind_all start [] base changing b = b
   behind_all start (step ∷ before) base changing b =
       behind_more start (put_off before ++ base) changing (fate_after defaults (put_off before)) step.0 step.1 (behind_all start before base changing b)
@@ -319,11 +319,11 @@ module _ (defaults : DefaultCodes) where
   stage_waits : (start : List ℕ) (past : List Call) (setup data_ : List ℕ) (command : Command) (steps : List (Work × List ℕ)) → accepts (SetUp setup ∷ past) (Out data_ Answers.Ack) ≡ Some command
       → IsAnswered defaults start (SetUp setup ∷ past) (Out data_ Answers.Ack)
       → stage_after defaults start (put_off steps ++ Out data_ Answers.Ack ∷ SetUp setup ∷ past)
-      ≡ after_command (state_told (changes defaults (keymap defaults (image_after start past)) command) (fate_after defaults (put_off steps))) false
+      ≡ after_command (state_reported (changes defaults (keymap defaults (image_after start past)) command) (fate_after defaults (put_off steps))) false
   stage_waits start past setup data_ command steps e a =
       let base : List Call = Out data_ Answers.Ack ∷ SetUp setup ∷ past in
       let changing : Bool = changes defaults (keymap defaults (image_after start past)) command in
-      stage_behind (ep_calls defaults start (put_off steps ++ base)) (state_told changing (fate_after defaults (put_off steps)))
+      stage_behind (ep_calls defaults start (put_off steps ++ base)) (state_reported changing (fate_after defaults (put_off steps)))
       (behind_all start steps base changing (behind_data start past setup data_ command e a))
 
   -- ---- the accepted commands
@@ -386,13 +386,13 @@ module _ (defaults : DefaultCodes) where
 
   -- ---- the ends
 
-  pub failed_fate : (changing : Bool) (f : Fate) (answer : Answer) → answer ≡ in_answer (after_command (state_told changing f) false) → status_of (plain answer) ≡ Refuses → (if changing then f else settled) ≡ failed
+  pub failed_fate : (changing : Bool) (f : Fate) (answer : Answer) → answer ≡ in_answer (after_command (state_reported changing f) false) → status_of (plain answer) ≡ Refuses → (if changing then f else settled) ≡ failed
   failed_fate false f answer e s = absurd (let t = subst (λ (a : Answer). status_of (plain a) ≡ Refuses) e s in cc)
   failed_fate true works answer e s = absurd (let t = subst (λ (a : Answer). status_of (plain a) ≡ Refuses) e s in cc)
   failed_fate true settled answer e s = absurd (let t = subst (λ (a : Answer). status_of (plain a) ≡ Refuses) e s in cc)
   failed_fate true failed answer e s = refl
 
-  works_fate : (changing : Bool) (f : Fate) → Waiting ≡ after_command (state_told changing f) false → (if changing then f else settled) ≡ works
+  works_fate : (changing : Bool) (f : Fate) → Waiting ≡ after_command (state_reported changing f) false → (if changing then f else settled) ≡ works
   works_fate false f e = cc
   works_fate true works e = refl
   works_fate true settled e = cc
@@ -473,7 +473,7 @@ module _ (defaults : DefaultCodes) where
       omega (arith, n, few)
 
   pub ended : (start : List ℕ) (past : List Call) (setup data_ : List ℕ) (e : TransferError) (taken status : List Call) → taken ≡ data_calls data_
-      → IsLawful defaults start (status ++ (taken ++ SetUp setup ∷ past)) → NotConfirmed defaults start (taken ++ SetUp setup ∷ past) e status
+      → IsConforming defaults start (status ++ (taken ++ SetUp setup ∷ past)) → NotConfirmed defaults start (taken ++ SetUp setup ∷ past) e status
       → Fails e setup data_ (status ++ (taken ++ SetUp setup ∷ [])) × HasNoEffect defaults start past (status ++ (taken ++ SetUp setup ∷ []))
   ended start past setup data_ Refused taken status t h n =
       let now : List Call = In n.0 ∷ put_off n.1 ++ (data_calls data_ ++ SetUp setup ∷ past) in

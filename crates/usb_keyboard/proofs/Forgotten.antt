@@ -4,7 +4,7 @@ use Rattle.layers.specs.declared.command.Command.{Command}
 use Rattle.layers.specs.Codes.{DefaultCodes}
 use Rattle.keyboard.specs.Calls.{Call}
 use Rattle.keyboard.specs.Commands.{accepted}
-use Rattle.keyboard.specs.ties.Value.{KeyboardValue}
+use Rattle.keyboard.specs.representation.Value.{KeyboardValue}
 use Rattle.usb_device.specs.Bus1.{no_polls}
 use Rattle.usb_device.specs.Calls.{EpCall, SetUp, Out, In, Polled, BusReset}
 use Rattle.usb_device.specs.Bus.{Seen}
@@ -16,7 +16,7 @@ use Rattle.usb_device.proofs.Pacing.{taken, between, since_start as guard_start}
 use Rattle.usb_device.specs.Forgetting.{Shows, none, same, instead}
 use Rattle.usb_keyboard.specs.Plain.{usb_calls}
 use Rattle.usb_keyboard.specs.Stored.{Brings}
-use Rattle.usb_keyboard.specs.ties.Stands.{StandsForUsb, IsStored}
+use Rattle.usb_keyboard.specs.representation.Relation.{RefinesUsb, IsStored}
 use Rattle.usb_keyboard.proofs.Counting.{no_more, no_less, at_most_taken}
 use Rattle.usb_keyboard.proofs.Seen.{equal, at_a_pace}
 use Rattle.usb_keyboard.proofs.Since.{stored}
@@ -32,7 +32,7 @@ same_transfers _ _ (instead calls kept d s) = same_transfers calls kept s
 
 module _ (defaults : DefaultCodes) where
   pub stored_where_forgotten : (calls kept : List EpCall) (keyboard : KeyboardValue) (image : List ℕ) (later : List Seen) (setup data_ : List ℕ) (command : Command)
-      → ConfirmedBefore later setup data_ calls → Shows calls kept → StandsForUsb defaults kept keyboard image → Brings setup data_ command
+      → ConfirmedBefore later setup data_ calls → Shows calls kept → RefinesUsb defaults kept keyboard image → Brings setup data_ command
       → IsStored defaults later keyboard image command
   stored_where_forgotten calls kept keyboard_ image later setup data_ command w shows s b =
       stored defaults kept keyboard_ image later setup data_ command s (confirmed_same later setup data_ calls kept (same_transfers calls kept shows) w) b

@@ -8,7 +8,7 @@ use Rattle.keyboard.specs.Acknowledged.{confirmation, DoesNotWrite, NoneAccepted
 use Rattle.keyboard.specs.Calls.{Call, image_after, keymap}
 use Rattle.keyboard.specs.Commands.{Accepted, accepts, accepted, accepted_with, accepted_before, standing_of, unless_failed, commands_of}
 use Rattle.keyboard.specs.Fate.{Fate, works, settled, failed, fate}
-use Rattle.keyboard.specs.Lawful.{IsLawful}
+use Rattle.keyboard.specs.Conforming.{IsConforming}
 use Rattle.keyboard.specs.Restart.{RestartsLegally}
 use Rattle.keyboard.proofs.Restarting.{standing_of-append, restarts_legally}
 use Rattle.keyboard.proofs.Steps.{cut_step}
@@ -124,12 +124,12 @@ kept_behind firsts kept later lost standing one k e =
     tail_same one one (later ++ lost) standing (append_cancel_left firsts (one ∷ (later ++ lost)) (one ∷ standing) a)
 
 module _ (defaults : DefaultCodes) where
-  kept_confirmed : (start : List ℕ) (past before : List Call) (command : Command) (image : List ℕ) (layer key code : ℕ) → layer < layers → key < keys → IsLawful defaults start past
+  kept_confirmed : (start : List ℕ) (past before : List Call) (command : Command) (image : List ℕ) (layer key code : ℕ) → layer < layers → key < keys → IsConforming defaults start past
       → (c : IsConfirmed past before command) → written defaults command layer key ≡ Some code → NoneAcceptedWrites defaults (c.after ++ confirmation ∷ c.between) (c.packet ∷ before) layer key
       → RestartsLegally defaults start past image → keymap defaults image layer key ≡ code
   unfolding accepted
-  kept_confirmed start past before command image layer key code l k lawful c w n r =
-      let s : IsSettled defaults start past before command = confirmed defaults start past before command lawful c in
+  kept_confirmed start past before command image layer key code l k conforming c w n r =
+      let s : IsSettled defaults start past before command = confirmed defaults start past before command conforming c in
       let kept : SettledAfter (standing_of (accepted_before defaults start s.since before)) command r.kept = kept_settled defaults start past before command image s r in
       let one : Accepted = record { command = command; fate = settled } in
       let earlier : List Accepted = accepted_before defaults start s.since before in
@@ -156,21 +156,21 @@ module _ (defaults : DefaultCodes) where
 -- ---- power losses
 
 module _ (defaults : DefaultCodes) where
-  has_by : (start : List ℕ) (past : List Call) (layer key code : ℕ) → IsLawful defaults start past → ((image : List ℕ) → RestartsLegally defaults start past image → keymap defaults image layer key ≡ code) → Has defaults start past layer key code
-  has_by start past layer key code lawful f = record {
-    now = f (image_after start past) (restarts_legally defaults start past lawful);
+  has_by : (start : List ℕ) (past : List Call) (layer key code : ℕ) → IsConforming defaults start past → ((image : List ℕ) → RestartsLegally defaults start past image → keymap defaults image layer key ≡ code) → Has defaults start past layer key code
+  has_by start past layer key code conforming f = record {
+    now = f (image_after start past) (restarts_legally defaults start past conforming);
     lost = at;
   }
     where
       at : (image : List ℕ) → Leaves defaults start past image → keymap defaults image layer key ≡ code
-      at image (between e) = ap (λ i. keymap defaults i layer key) e ∙ f (image_after start past) (restarts_legally defaults start past lawful)
-      at image (inside command work new step e is may) = f image (cut_step defaults start past command work new image step lawful e is may)
+      at image (between e) = ap (λ i. keymap defaults i layer key) e ∙ f (image_after start past) (restarts_legally defaults start past conforming)
+      at image (inside command work new step e is may) = f image (cut_step defaults start past command work new image step conforming e is may)
 
-  pub has_confirmed : (start : List ℕ) (past before : List Call) (command : Command) (layer key code : ℕ) → layer < layers → key < keys → IsLawful defaults start past
+  pub has_confirmed : (start : List ℕ) (past before : List Call) (command : Command) (layer key code : ℕ) → layer < layers → key < keys → IsConforming defaults start past
       → (c : IsConfirmed past before command) → written defaults command layer key ≡ Some code → NoneAcceptedWrites defaults (c.after ++ confirmation ∷ c.between) (c.packet ∷ before) layer key
       → Has defaults start past layer key code
-  has_confirmed start past before command layer key code l k lawful c w n =
-      has_by start past layer key code lawful (λ image r. kept_confirmed defaults start past before command image layer key code l k lawful c w n r)
+  has_confirmed start past before command layer key code l k conforming c w n =
+      has_by start past layer key code conforming (λ image r. kept_confirmed defaults start past before command image layer key code l k conforming c w n r)
 
   at_start : (earlier : List Session) (start : List ℕ) (layer key code : ℕ) → Begins defaults start earlier → HasNow defaults earlier layer key code → keymap defaults start layer key ≡ code
   at_start [] start layer key code b h = absurd h

@@ -21,7 +21,7 @@ use Rattle.keyboard.specs.Calls.{Call, Scanned, SetUp, Out, In, Polled, Worked, 
 use Rattle.keyboard.specs.Commands.{accepts, working}
 use Rattle.keyboard.specs.Effects.{report_named}
 use Rattle.keyboard.specs.Endpoint.{with_out, ep_calls, stage_after}
-use Rattle.keyboard.specs.Lawful.{IsAnswered, OutAnswer}
+use Rattle.keyboard.specs.Conforming.{IsAnswered, OutAnswer}
 use Rattle.keyboard.proofs.Effects.{Accepts, accepted_by}
 use Rattle.keyboard.proofs.Served.{Serves, serves}
 use Rattle.keyboard.proofs.Telling.{EachCall-later}

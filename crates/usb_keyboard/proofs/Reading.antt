@@ -7,7 +7,7 @@ use Rattle.reports.specs.declared.Input.TheVariants.{Boot, One, Two}
 use Rattle.reports.specs.declared.Protocol.{Protocol}
 use Rattle.reports.specs.declared.Protocol.TheVariants as Protocols
 use Rattle.reports.specs.Wanted.{wanted}
-use Rattle.reports.proofs.LayoutLaws.{boot-layout, bitmap-layout, consumer-layout}
+use Rattle.reports.proofs.LayoutTheorems.{boot-layout, bitmap-layout, consumer-layout}
 use Rattle.key_reports.specs.Past.{keys_after, consumer_after}
 use Rattle.descriptor_build.specs.Served.{device_bytes, configuration_bytes, hid_bytes, report_bytes}
 use Rattle.control_ep.specs.declared.why.Why.{Why}

@@ -21,7 +21,7 @@ use Rattle.control_ep.proofs.Stages.{stage-is}
 use Rattle.keyboard.specs.Calls.{Call, SetUp, Out, In, image_after, EachCall}
 use Rattle.keyboard.specs.Commands.{working}
 use Rattle.keyboard.specs.Endpoint.{ep_calls, stage_after, view_after}
-use Rattle.keyboard.specs.Lawful.{IsAnswered, OutAnswer}
+use Rattle.keyboard.specs.Conforming.{IsAnswered, OutAnswer}
 use Rattle.usb_device.specs.declared.answer.EpAnswer.TheVariants as Plains
 use Rattle.usb_device.specs.declared.whole_transfers.TransferError.{TransferError}
 use Rattle.usb_device.specs.declared.whole_transfers.TransferError.TheVariants.{Refused, Busy, Unfinished}
@@ -29,7 +29,7 @@ use Rattle.usb_device.specs.WholeReads.{joined, is_last, GoOn, AreWhole, IsNoPac
 use Rattle.usb_keyboard.specs.Checks.{read_answer}
 use Rattle.usb_keyboard.specs.Plain.{plain}
 use Rattle.usb_keyboard.specs.Whole.{in_calls, IsRead, IsUnread, stalled}
-use Rattle.usb_keyboard.specs.ties.Whole.{Receives, NotReceived}
+use Rattle.usb_keyboard.specs.representation.Whole.{Receives, NotReceived}
 use Rattle.usb_keyboard.proofs.Checking.{first_stage, stage_begun}
 use Rattle.usb_keyboard.proofs.Reading.{reads_sized, takes_its_length}
 
@@ -57,9 +57,9 @@ abbrev bytes_in : Answer → List ℕ
 bytes_in (Answers.Packet packet) = packet.items
 bytes_in _ = []
 
-packet_told : (o : Option (List ℕ)) (packet : List ℕ) → Answers.Packet (record { items = packet }) ≡ packet_or_stall o → o ≡ Some packet
-packet_told None packet e = cc
-packet_told (Some other) packet e = let f : packet ≡ other = ap bytes_in e in ap Some (sym f)
+packet_reported : (o : Option (List ℕ)) (packet : List ℕ) → Answers.Packet (record { items = packet }) ≡ packet_or_stall o → o ≡ Some packet
+packet_reported None packet e = cc
+packet_reported (Some other) packet e = let f : packet ≡ other = ap bytes_in e in ap Some (sym f)
 
 nak_never : (o : Option (List ℕ)) → Answers.Nak ≡ packet_or_stall o → ⊥
 nak_never None e = cc
@@ -100,7 +100,7 @@ module _ (defaults : DefaultCodes) where
   joined_are start past setup bytes [] e z h = refl
   joined_are start past setup bytes (packet ∷ before) e z h =
       let asked : ℕ = (request_of setup).length in
-      let w : packet_at bytes asked (length before) ≡ Some packet = packet_told (packet_at bytes asked (length before)) packet (h.0 ∙ ap in_answer (now_sending start past setup bytes before e z)) in
+      let w : packet_at bytes asked (length before) ≡ Some packet = packet_reported (packet_at bytes asked (length before)) packet (h.0 ∙ ap in_answer (now_sending start past setup bytes before e z)) in
       ap (λ l. l ++ packet) (joined_are start past setup bytes before e z h.1) ∙ ap (λ (o : Option (List ℕ)). joined_packets bytes asked (length before) ++ unwrap_or o []) (sym w)
 
   taken_are : (start : List ℕ) (past : List Call) (setup bytes : List ℕ) (packets : List (List ℕ)) → transfer_of (request_of setup) (view_after defaults start past) ≡ Ok (Reads bytes) → ((request_of setup).length == 0) ≡ false
@@ -240,16 +240,16 @@ module _ (defaults : DefaultCodes) where
       read_whole bytes got (request_of setup).length w.last w.before (taken_are defaults start past setup bytes w.before e z here.1) (taken_are defaults start past setup bytes (w.last ∷ w.before) e z here) w.ends
       (w.bytes_are ∙ ap joined w.packets_are)
 
-  lawful_of : (start : List ℕ) (past : List Call) (setup : List ℕ) (received calls : List Call) → received ≡ calls → EachCall (IsAnswered defaults) start (received ++ SetUp setup ∷ past)
+  conforming_of : (start : List ℕ) (past : List Call) (setup : List ℕ) (received calls : List Call) → received ≡ calls → EachCall (IsAnswered defaults) start (received ++ SetUp setup ∷ past)
       → EachCall (IsAnswered defaults) start (calls ++ SetUp setup ∷ past)
-  lawful_of start past setup received calls e h = (let P : List Call → Type 0 = λ l. EachCall (IsAnswered defaults) start (l ++ SetUp setup ∷ past) in subst P e h)
+  conforming_of start past setup received calls e h = (let P : List Call → Type 0 = λ l. EachCall (IsAnswered defaults) start (l ++ SetUp setup ∷ past) in subst P e h)
 
   pub read_got : (start : List ℕ) (past : List Call) (setup got : List ℕ) (received : List Call) → ((request_of setup).length == 0) ≡ false → Receives (request_of setup).length got received
       → EachCall (IsAnswered defaults) start (received ++ SetUp setup ∷ past) → read_answer (transfer_of (request_of setup) (view_after defaults start past)) (request_of setup).length ≡ Ok got
   read_got start past setup got received z w h = by_first (first start past setup z)
     where
       here : EachCall (IsAnswered defaults) start (in_calls w.0 ++ SetUp setup ∷ past)
-      here = lawful_of start past setup received (in_calls w.0) w.2 h
+      here = conforming_of start past setup received (in_calls w.0) w.2 h
 
       by_first : First (transfer_of (request_of setup) (view_after defaults start past)) (request_of setup).length → read_answer (transfer_of (request_of setup) (view_after defaults start past)) (request_of setup).length ≡ Ok got
       by_first (reads bytes e) =
@@ -261,7 +261,7 @@ module _ (defaults : DefaultCodes) where
   closes start past setup got received answer z w h = by_first (first start past setup z)
     where
       here : EachCall (IsAnswered defaults) start (in_calls w.0 ++ SetUp setup ∷ past)
-      here = lawful_of start past setup received (in_calls w.0) w.2 h.1
+      here = conforming_of start past setup received (in_calls w.0) w.2 h.1
 
       closed : IsAnswered defaults start (in_calls w.0 ++ SetUp setup ∷ past) (Out [] answer)
       closed = let P : List Call → Type 0 = λ l. IsAnswered defaults start (l ++ SetUp setup ∷ past) (Out [] answer) in subst P w.2 h.0
@@ -297,8 +297,8 @@ module _ (defaults : DefaultCodes) where
       let none : packets ≡ [] = no_packets start past setup why packets s h.1 in
       let P : List (List ℕ) → Type 0 = λ l. EachCall (IsAnswered defaults) start (In answer ∷ in_calls l ++ SetUp setup ∷ past) in
       let here : EachCall (IsAnswered defaults) start (In answer ∷ SetUp setup ∷ past) = subst P none h in
-      let told : answer ≡ Answers.Stall why = here.0 ∙ ap in_answer (stage_begun defaults start past setup) ∙ s in
-      stalled why (ap (λ l. l ++ (SetUp setup ∷ [])) is ∙ ap (λ l. In answer ∷ in_calls l ++ (SetUp setup ∷ [])) none ∙ ap (λ a. In a ∷ SetUp setup ∷ []) told)
+      let reported : answer ≡ Answers.Stall why = here.0 ∙ ap in_answer (stage_begun defaults start past setup) ∙ s in
+      stalled why (ap (λ l. l ++ (SetUp setup ∷ [])) is ∙ ap (λ l. In answer ∷ in_calls l ++ (SetUp setup ∷ [])) none ∙ ap (λ a. In a ∷ SetUp setup ∷ []) reported)
 
   not_stalled_nak : (start : List ℕ) (past : List Call) (setup : List ℕ) (packets : List (List ℕ)) (why : Why) → in_answer (first_stage (transfer_of (request_of setup) (view_after defaults start past)) (request_of setup).length) ≡ Answers.Stall why
       → EachCall (IsAnswered defaults) start (In Answers.Nak ∷ in_calls packets ++ SetUp setup ∷ past) → ⊥
@@ -306,7 +306,7 @@ module _ (defaults : DefaultCodes) where
       let none : packets ≡ [] = no_packets start past setup why packets s h.1 in
       let P : List (List ℕ) → Type 0 = λ l. EachCall (IsAnswered defaults) start (In Answers.Nak ∷ in_calls l ++ SetUp setup ∷ past) in
       let here : EachCall (IsAnswered defaults) start (In Answers.Nak ∷ SetUp setup ∷ past) = subst P none h in
-      let told : Answers.Nak ≡ Answers.Stall why = here.0 ∙ ap in_answer (stage_begun defaults start past setup) ∙ s in cc
+      let reported : Answers.Nak ≡ Answers.Stall why = here.0 ∙ ap in_answer (stage_begun defaults start past setup) ∙ s in cc
 
   pub not_got : (start : List ℕ) (past : List Call) (setup : List ℕ) (e : TransferError) (received : List Call) → ((request_of setup).length == 0) ≡ false → NotReceived e (request_of setup).length received
       → EachCall (IsAnswered defaults) start (received ++ SetUp setup ∷ past)
@@ -314,7 +314,7 @@ module _ (defaults : DefaultCodes) where
   not_got start past setup Refused received z n h = by_first (first start past setup z)
     where
       here : EachCall (IsAnswered defaults) start (In n.0 ∷ in_calls n.1 ++ SetUp setup ∷ past)
-      here = lawful_of start past setup received (In n.0 ∷ in_calls n.1) n.4 h
+      here = conforming_of start past setup received (In n.0 ∷ in_calls n.1) n.4 h
 
       by_first : First (transfer_of (request_of setup) (view_after defaults start past)) (request_of setup).length → Ends start past setup Refused received
       by_first (reads bytes e) =
@@ -325,7 +325,7 @@ module _ (defaults : DefaultCodes) where
   not_got start past setup Busy received z n h = by_first (first start past setup z)
     where
       here : EachCall (IsAnswered defaults) start (In Answers.Nak ∷ in_calls n.0 ++ SetUp setup ∷ past)
-      here = lawful_of start past setup received (In Answers.Nak ∷ in_calls n.0) n.2 h
+      here = conforming_of start past setup received (In Answers.Nak ∷ in_calls n.0) n.2 h
 
       by_first : First (transfer_of (request_of setup) (view_after defaults start past)) (request_of setup).length → Ends start past setup Busy received
       by_first (reads bytes e) = absurd (nak_never (packet_at bytes (request_of setup).length (length n.0)) (here.0 ∙ ap in_answer (now_sending defaults start past setup bytes n.0 e z)))
@@ -333,7 +333,7 @@ module _ (defaults : DefaultCodes) where
   not_got start past setup Unfinished received z n h = by_first (first start past setup z)
     where
       here : EachCall (IsAnswered defaults) start (in_calls n.0 ++ SetUp setup ∷ past)
-      here = lawful_of start past setup received (in_calls n.0) n.3 h
+      here = conforming_of start past setup received (in_calls n.0) n.3 h
 
       by_first : First (transfer_of (request_of setup) (view_after defaults start past)) (request_of setup).length → Ends start past setup Unfinished received
       by_first (reads bytes e) =

@@ -16,15 +16,15 @@ use Rattle.keyboard.specs.Acknowledged.{confirmation, SameTransfer, DoesNotWrite
 use Rattle.keyboard.specs.Calls.{Call, Scanned, SetUp, Out, In, Polled, Worked, BusReset, setup_of, EachCall}
 use Rattle.keyboard.specs.Commands.{accepts}
 use Rattle.keyboard.specs.Effects.{report_named}
-use Rattle.keyboard.specs.Feature.{command_in}
-use Rattle.keyboard.specs.Lawful.{IsAnswered}
-use Rattle.keyboard.specs.ties.Value.{KeyboardValue}
+use Rattle.keyboard.specs.Feature.{command_of_bytes}
+use Rattle.keyboard.specs.Conforming.{IsAnswered}
+use Rattle.keyboard.specs.representation.Value.{KeyboardValue}
 use Rattle.keyboard.proofs.Confirming as keyboard
 use Rattle.keyboard.proofs.Effects.{Accepts, accepted_by}
 use Rattle.keyboard.proofs.Telling.{EachCall-later}
 use Rattle.usb_keyboard.specs.Plain.{plain, usb_calls}
 use Rattle.usb_keyboard.specs.Stored.{Brings, IsSent, AllSent, NoneSent, Has}
-use Rattle.usb_keyboard.specs.ties.Stands.{RunsSince, StandsForUsb, IsStored}
+use Rattle.usb_keyboard.specs.representation.Relation.{RunsSince, RefinesUsb, IsStored}
 use Rattle.usb_keyboard.proofs.Confirming as confirming
 use Rattle.usb_keyboard.proofs.Confirming.{Taken, taken_at, asked_setup}
 use Rattle.usb_keyboard.proofs.Counting.{feature_named}
@@ -49,7 +49,7 @@ unfolding report_named
 none_named e = cc
 
 sent_by : (sent : List Seen) (o : Option (List ℕ)) (calls : List EpCall) (packet : List ℕ) (command : Command) → o ≡ asked_of calls → report_named o ≡ Some FeatureData
-    → result_ok (command_in (drop 1 packet)) ≡ Some command → TakesOnly sent calls (Eps.Out packet (plain Answers.Ack)) → IsSent sent command
+    → result_ok (command_of_bytes (drop 1 packet)) ≡ Some command → TakesOnly sent calls (Eps.Out packet (plain Answers.Ack)) → IsSent sent command
 sent_by sent None calls packet command a n r t = absurd (none_named n)
 sent_by sent (Some setup) calls packet command a n r t =
     record { setup = setup; data_ = packet; was_sent = t setup (sym a) (feature_out setup n); brings = record { named = n; read = r } }
@@ -152,7 +152,7 @@ module _ (defaults : DefaultCodes) where
         accepted = accepted;
         same_transfer = t.same;
       } in
-      let all : EachCall (IsAnswered defaults) start (f.after ++ (calls ++ tail)) = subst (λ (xs : List Call). EachCall (IsAnswered defaults) start xs) whole r.stands.answered in
+      let all : EachCall (IsAnswered defaults) start (f.after ++ (calls ++ tail)) = subst (λ (xs : List Call). EachCall (IsAnswered defaults) start xs) whole r.refines.answered in
       let later : AllSent sent f.after (calls ++ tail) = subst (λ (xs : List Call). AllSent sent f.after xs) rest_is f.since in
       record {
         start = start;
@@ -160,12 +160,12 @@ module _ (defaults : DefaultCodes) where
         runs = r;
         before = t.before;
         confirmed = c;
-        settled = keyboard.confirmed defaults start past t.before command r.stands.answered c;
+        settled = keyboard.confirmed defaults start past t.before command r.refines.answered c;
         since = sent_append sent f.after calls tail later (none_more start sent calls t.before data_ command t.same accepted (EachCall-later (IsAnswered defaults) start f.after (calls ++ tail) all));
-        has = λ layer key code l k x n. has_confirmed defaults start past t.before command layer key code l k r.stands.answered c x n;
+        has = λ layer key code l k x n. has_confirmed defaults start past t.before command layer key code l k r.refines.answered c x n;
       }
 
-  pub stored : (calls : List EpCall) (keyboard : KeyboardValue) (image : List ℕ) (sent : List Seen) (setup data_ : List ℕ) (command : Command) → StandsForUsb defaults calls keyboard image
+  pub stored : (calls : List EpCall) (keyboard : KeyboardValue) (image : List ℕ) (sent : List Seen) (setup data_ : List ℕ) (command : Command) → RefinesUsb defaults calls keyboard image
       → ConfirmedBefore sent setup data_ calls → Brings setup data_ command → IsStored defaults sent keyboard image command
   stored calls keyboard_ image sent setup data_ command s w b =
       let P : List EpCall → Type 0 = λ x. ConfirmedBefore sent setup data_ x in

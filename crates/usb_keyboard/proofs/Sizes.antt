@@ -13,13 +13,13 @@ use Rattle.reports.specs.Calls.{ticked}
 use Rattle.reports.specs.Wanted.{wanted}
 use Rattle.reports.specs.Queue.{pushed_by, pushed, waiting, queue}
 use Rattle.reports.specs.Poll.{chosen, rule_answer, poll_answer}
-use Rattle.reports.proofs.LayoutLaws.{boot-layout, bitmap-layout, consumer-layout}
+use Rattle.reports.proofs.LayoutTheorems.{boot-layout, bitmap-layout, consumer-layout}
 use Rattle.key_reports.specs.Calls.{KeyCall}
 use Rattle.key_reports.specs.Past.{keys_after, consumer_after, wanted_after, poller_calls, answer_after}
 use Rattle.control_ep.specs.declared.answer.Effect.{Effect}
 use Rattle.control_ep.specs.declared.answer.Effect.TheVariants.{Nothing, Idle, SetProtocol}
 use Rattle.keyboard.specs.Calls.{Call, Scanned, SetUp, Out, In, Polled, Worked, BusReset}
-use Rattle.keyboard.specs.Effects.{effect_told, protocol_after}
+use Rattle.keyboard.specs.Effects.{effect_reported, protocol_after}
 use Rattle.keyboard.specs.Keys.{with_effect, key_calls}
 
 abbrev pub Short : List ℕ → Type 0
@@ -45,11 +45,11 @@ short_pushed protocol.Report before keys consumer =
     All-append Short _ _ (short_changed (bytes_eq (before One) (wanted keys consumer One)) (wanted keys consumer One) (short_wanted keys consumer One))
     (All-append Short _ [] (short_changed (bytes_eq (before Two) (wanted keys consumer Two)) (wanted keys consumer Two) (short_wanted keys consumer Two)) (All-nil Short))
 
-told : (effect : Effect) (calls : List KeyCall) → All Short (pushed (poller_calls calls)) → All Short (pushed (poller_calls (with_effect effect calls)))
+reported : (effect : Effect) (calls : List KeyCall) → All Short (pushed (poller_calls calls)) → All Short (pushed (poller_calls (with_effect effect calls)))
 unfolding pushed pushed_by poller_calls
-told Nothing calls a = a
-told (Idle id duration) calls a = All-append Short (pushed (poller_calls calls)) [] a (All-nil Short)
-told (SetProtocol chosen) calls a = All-nil Short
+reported Nothing calls a = a
+reported (Idle id duration) calls a = All-append Short (pushed (poller_calls calls)) [] a (All-nil Short)
+reported (SetProtocol chosen) calls a = All-nil Short
 
 module _ (defaults : DefaultCodes) where
   all_pushed : (start : List ℕ) (past : List Call) → All Short (pushed (poller_calls (key_calls defaults start past)))
@@ -60,7 +60,7 @@ module _ (defaults : DefaultCodes) where
       (short_pushed (protocol_after before) (wanted_after (key_calls defaults start before)) (keys_after (key_calls defaults start (Scanned scan ∷ before))) (consumer_after (key_calls defaults start (Scanned scan ∷ before))))
   all_pushed start (SetUp bytes ∷ before) = all_pushed start before
   all_pushed start (Out packet answer ∷ before) = all_pushed start before
-  all_pushed start (In answer ∷ before) = told (effect_told before answer) (key_calls defaults start before) (all_pushed start before)
+  all_pushed start (In answer ∷ before) = reported (effect_reported before answer) (key_calls defaults start before) (all_pushed start before)
   all_pushed start (Polled answer ∷ before) = All-append Short (pushed (poller_calls (key_calls defaults start before))) [] (all_pushed start before) (All-nil Short)
   all_pushed start (Worked work image ∷ before) = all_pushed start before
   all_pushed start (BusReset ∷ before) = All-nil Short

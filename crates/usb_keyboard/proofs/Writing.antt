@@ -3,8 +3,8 @@ use Rattle.std.proofs.Common.{◌≡◌, ◌≢◌, ◌==◌, ℕ, ◌+◌, leng
 use Rattle.std.proofs.lemmas.List.{nil_from_length}
 use Rattle.std.specs.Result.{result_ok}
 use Rattle.std.specs.Prelude.{MatchResult}
-use Rattle.keyboard.specs.ties.Value.{KeyboardValue}
-use Rattle.usb_keyboard.specs.ties.Stands.{RunsSince}
+use Rattle.keyboard.specs.representation.Value.{KeyboardValue}
+use Rattle.usb_keyboard.specs.representation.Relation.{RunsSince}
 use Rattle.layers.specs.declared.command.Command.{Command}
 use Rattle.layers.specs.Codes.{DefaultCodes}
 use Rattle.control_ep.specs.declared.answer.EpAnswer.{EpAnswer as Answer}
@@ -21,12 +21,12 @@ use Rattle.keyboard.specs.Acknowledged.{confirmation, NoneAcceptedWrites, IsConf
 use Rattle.keyboard.specs.Bounded.{IsInTime}
 use Rattle.keyboard.specs.Calls.{Call, SetUp, Out, In, Worked}
 use Rattle.keyboard.specs.Commands.{accepts}
-use Rattle.keyboard.specs.Feature.{command_in}
-use Rattle.keyboard.specs.Lawful.{IsLawful}
+use Rattle.keyboard.specs.Feature.{command_of_bytes}
+use Rattle.keyboard.specs.Conforming.{IsConforming}
 use Rattle.keyboard.specs.Single.{NoneFails}
 use Rattle.usb_keyboard.specs.Plain.{plain}
 use Rattle.usb_keyboard.specs.Whole.{put_off, data_calls, IsWritten, Fails, in_data, HasNoEffect, Stores}
-use Rattle.usb_keyboard.specs.ties.Whole.{Gives, IsStatusStage, WasInTime, NotConfirmed}
+use Rattle.usb_keyboard.specs.representation.Whole.{Gives, IsStatusStage, WasInTime, NotConfirmed}
 use Rattle.usb_keyboard.proofs.Confirming.{accepted_by}
 use Rattle.usb_keyboard.proofs.Faults.{Raises, one_more}
 use Rattle.usb_keyboard.proofs.Ending.{same_transfer, ended, not_taken, none_taken}
@@ -99,13 +99,13 @@ module _ (defaults : DefaultCodes) where
   unfolding accepts
   confirmation_leaves steps past layer key = (tt, none_accepted_by steps past layer key)
 
-no_data : (command : Command) → result_ok (command_in (drop 1 [])) ≡ Some command → ⊥
+no_data : (command : Command) → result_ok (command_of_bytes (drop 1 [])) ≡ Some command → ⊥
 no_data command e = cc
 
 module _ (defaults : DefaultCodes) where
-  pub stores : (start : List ℕ) (past since : List Call) (setup data_ : List ℕ) → IsLawful defaults start (since ++ past) → IsWritten setup data_ since → Stores defaults start (since ++ past) setup data_
-  stores start past since setup [] lawful w = λ command layer key code b l k x. absurd (no_data command b.read)
-  stores start past since setup (byte ∷ bytes) lawful w = λ command layer key code b l k x.
+  pub stores : (start : List ℕ) (past since : List Call) (setup data_ : List ℕ) → IsConforming defaults start (since ++ past) → IsWritten setup data_ since → Stores defaults start (since ++ past) setup data_
+  stores start past since setup [] conforming w = λ command layer key code b l k x. absurd (no_data command b.read)
+  stores start past since setup (byte ∷ bytes) conforming w = λ command layer key code b l k x.
       let packet : Call = Out (byte ∷ bytes) Answers.Ack in
       let before : List Call = SetUp setup ∷ past in
       let is : since ++ past ≡ confirmation ∷ put_off w.steps ++ packet ∷ before =
@@ -118,7 +118,7 @@ module _ (defaults : DefaultCodes) where
         accepted = accepted_by before setup (byte ∷ bytes) command refl b.named b.read;
         same_transfer = same_transfer w.steps;
       } in
-      has_confirmed defaults start (since ++ past) before command layer key code l k lawful c x (confirmation_leaves defaults w.steps (packet ∷ before) layer key)
+      has_confirmed defaults start (since ++ past) before command layer key code l k conforming c x (confirmation_leaves defaults w.steps (packet ∷ before) layer key)
 
   by_result : {U A B : Type 0} (result : Result U TransferError) (P Q : TransferError → Type 0) → MatchResult result (λ _. A) P → (A → B) → ((e : TransferError) → P e → Q e) → MatchResult result (λ _. B) Q
   by_result (Ok u) P Q m f h = f m
@@ -138,8 +138,8 @@ module _ (defaults : DefaultCodes) where
         since,
         runs,
         by_result result (λ e. NotConfirmed defaults start (taken ++ SetUp setup ∷ past) e status) (λ e. Fails e setup data_ since × HasNoEffect defaults start past since) m
-            (λ s. (let w = written_by setup data_ status taken s t in (w, stores start past since setup data_ runs.stands.answered w)))
-            (λ e n. ended defaults start past setup data_ e taken status t r.stands.answered n),
+            (λ s. (let w = written_by setup data_ status taken s t in (w, stores start past since setup data_ runs.refines.answered w)))
+            (λ e n. ended defaults start past setup data_ e taken status t r.refines.answered n),
       )
 
   pub put_off_data : (start : List ℕ) (past : List Call) (setup data_ : List ℕ) (taken : List Call) (keyboard : KeyboardValue) (image : List ℕ) → Gives Waits data_ taken

@@ -1,4 +1,4 @@
--- Believed: the checks of a whole control transfer of a keyboard, in their order (docs/formats.md), and how the transfer ends by them.
+-- Trusted: the checks of a whole control transfer of a keyboard, in their order (docs/formats.md), and how the transfer ends by them.
 use Rattle.shapes.specs.Shapes.{Bytes}
 use Rattle.std.specs.Prelude.{◌≡◌, ◌==◌, ℕ, Bool, is_some, if◌then◌else◌, List, [], ◌∷◌, take, Result, Ok, Err}
 use Rattle.layers.specs.Codes.{DefaultCodes}
@@ -12,7 +12,7 @@ use Rattle.control_ep.specs.Transfers.{HostReport, Transfer, Reads, Takes, Sets}
 use Rattle.keyboard.specs.Calls.{Call, image_after}
 use Rattle.keyboard.specs.Commands.{working}
 use Rattle.keyboard.specs.Endpoint.{view_after}
-use Rattle.keyboard.specs.Lawful.{OutAnswer}
+use Rattle.keyboard.specs.Conforming.{OutAnswer}
 use Rattle.usb_device.specs.declared.whole_transfers.TransferError.{TransferError}
 use Rattle.usb_device.specs.declared.whole_transfers.TransferError.TheVariants.{Refused, Busy}
 

@@ -2,4 +2,4 @@ pub mod Checks
 pub mod Plain
 pub mod Stored
 pub mod Whole
-pub mod ties
+pub mod representation

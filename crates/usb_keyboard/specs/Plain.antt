@@ -1,4 +1,4 @@
--- Believed: the session of a keyboard as that of a device behind the USB device layer: without scans and flash work, and without the
+-- Trusted: the session of a keyboard as that of a device behind the USB device layer: without scans and flash work, and without the
 -- reasons of a STALL.
 use Rattle.std.specs.Prelude.{List, [], ◌∷◌}
 use Rattle.control_ep.specs.declared.answer.EpAnswer.{EpAnswer as Answer}

@@ -1,4 +1,4 @@
--- Believed: a feature command on the bus, and the sessions of a keyboard between power losses.
+-- Trusted: a feature command on the bus, and the sessions of a keyboard between power losses.
 use Rattle.shapes.specs.Shapes.{Bytes}
 use Rattle.std.specs.Prelude.{◌≡◌, ℕ, Some, None, List, [], ◌∷◌, ◌++◌, drop}
 use Rattle.std.specs.Result.{result_ok}
@@ -13,8 +13,8 @@ use Rattle.keyboard.specs.Acknowledged.{NoneAcceptedWrites}
 use Rattle.keyboard.specs.Calls.{Call, image_after, keymap}
 use Rattle.keyboard.specs.Commands.{accepts, working}
 use Rattle.keyboard.specs.Effects.{report_named}
-use Rattle.keyboard.specs.Feature.{command_in}
-use Rattle.keyboard.specs.Lawful.{IsLawful}
+use Rattle.keyboard.specs.Feature.{command_of_bytes}
+use Rattle.keyboard.specs.Conforming.{IsConforming}
 use Rattle.keyboard.specs.Operated.{Works}
 use Rattle.usb_device.specs.Bus.{Seen}
 use Rattle.usb_device.specs.Confirmed.{WasSent}
@@ -22,7 +22,7 @@ use Rattle.usb_device.specs.Confirmed.{WasSent}
 -- the SETUP packet is SET_REPORT of the feature report, and the data behind its ID are this command, of operation 1 to 3
 pub record Brings (setup data_ : Bytes) (command : Command) : Type 0 where
   pub named : report_named (Some setup) ≡ Some FeatureData
-  pub read : result_ok (command_in (drop 1 data_)) ≡ Some command
+  pub read : result_ok (command_of_bytes (drop 1 data_)) ≡ Some command
 
 -- the host sent a command, in one of these transfers
 pub record IsSent (sent : List Seen) (command : Command) : Type 0 where
@@ -60,7 +60,7 @@ module _ (defaults : DefaultCodes) where
   -- sessions, newest first: each began on what the power loss behind the one before it left
   abbrev pub Follow : List Session → Type 0
   Follow [] = Unit {0}
-  Follow (session ∷ earlier) = IsLawful defaults session.start session.calls × Begins session.start earlier × Follow earlier
+  Follow (session ∷ earlier) = IsConforming defaults session.start session.calls × Begins session.start earlier × Follow earlier
 
   -- no command that was accepted in these sessions writes the entry
   abbrev pub NoneWrites : List Session → ℕ → ℕ → Type 0

@@ -1,4 +1,4 @@
--- Believed: whole control transfers of a keyboard, by their calls, newest first.
+-- Trusted: whole control transfers of a keyboard, by their calls, newest first.
 use Rattle.shapes.specs.Shapes.{Bytes}
 use Rattle.std.specs.Prelude.{◌≡◌, ◌<◌, ℕ, Some, List, [], ◌∷◌, ◌++◌}
 use Rattle.layers.specs.Codes.{layers, keys, DefaultCodes}

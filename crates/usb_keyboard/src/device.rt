@@ -9,7 +9,7 @@ ghost use Rattle.usb_device.specs.Calls.{EpCall};
 ghost use Rattle.usb_device.specs.Calls as Eps;
 ghost use Rattle.keyboard.specs.Calls.{Call, SetUp, Out, In, Polled, Worked, BusReset};
 ghost use Rattle.usb_keyboard.specs.Plain.{plain};
-ghost use Rattle.usb_keyboard.specs.ties.Stands.{RunsSince};
+ghost use Rattle.usb_keyboard.specs.representation.Relation.{RunsSince};
 
 use crate::held::{HoldsKeyboard, PhantomData};
 use arrayvec::ArrayVec;
@@ -33,7 +33,7 @@ pub type UsbKeyboard<F> = UsbKeyboardOf<Standard, KeyboardOf<Standard>, F>;
 
 // The keyboard runs on this flash.
 impl<D: Defaults, K: HoldsKeyboard<D> + Drop, F: NorFlash + Drop> Model for UsbKeyboardOf<D, K, F> {
-    ghost use Rattle.keyboard.specs.ties.Value.{KeyboardValue, RunsOn};
+    ghost use Rattle.keyboard.specs.representation.Value.{KeyboardValue, RunsOn};
 
     ghost Value = { KeyboardValue × F };
 
@@ -123,7 +123,7 @@ impl<D: Defaults, K: HoldsKeyboard<D> + Drop, F: NorFlash + Drop> UsbKeyboardOf<
 
     /// A step of the flash work, at most one program or erase, and what it came to.
     pub fn step(&mut self) -> Work
-        ensures told { (start : List ℕ) (past : List Call) → RunsSince D.defaults start past self.old.0 (F.image self.old.1)
+        ensures reported { (start : List ℕ) (past : List Call) → RunsSince D.defaults start past self.old.0 (F.image self.old.1)
             → RunsSince D.defaults start (Worked result (F.image self.new.1) ∷ past) self.new.0 (F.image self.new.1) }
         // at most one operation is made, and a step that fails is a fault of the flash
         ensures counts { CountsAs (result ≡ Work.Idle) (result ≡ Work.Failed) (F.operations self.old.1) (F.operations self.new.1) (F.faults self.old.1) (F.faults self.new.1) }
@@ -170,14 +170,14 @@ impl<D: Defaults, K: HoldsKeyboard<D> + Drop, F: NorFlash + Drop> UsbKeyboardOf<
 
 impl<D: Defaults, K: HoldsKeyboard<D> + Drop, F: NorFlash + Drop> Endpoints
     for UsbKeyboardOf<D, K, F> {
-    ghost use Rattle.usb_keyboard.specs.ties.Stands.{StandsForUsb};
+    ghost use Rattle.usb_keyboard.specs.representation.Relation.{RefinesUsb};
 
-    ghost stands = { λ calls k. StandsForUsb D.defaults calls k.0 (F.image k.1) };
+    ghost refines = { λ calls k. RefinesUsb D.defaults calls k.0 (F.image k.1) };
 
     fn setup(&mut self, packet: [u8; 8])
-        ensures told { (start : List ℕ) (past : List Call) → RunsSince D.defaults start past self.old.0 (F.image self.old.1)
+        ensures reported { (start : List ℕ) (past : List Call) → RunsSince D.defaults start past self.old.0 (F.image self.old.1)
             → RunsSince D.defaults start (SetUp packet ∷ past) self.new.0 (F.image self.new.1) }
-        ensures stands { (calls : List EpCall) → StandsForUsb D.defaults calls self.old.0 (F.image self.old.1) → StandsForUsb D.defaults (Eps.SetUp packet ∷ calls) self.new.0 (F.image self.new.1) }
+        ensures refines { (calls : List EpCall) → RefinesUsb D.defaults calls self.old.0 (F.image self.old.1) → RefinesUsb D.defaults (Eps.SetUp packet ∷ calls) self.new.0 (F.image self.new.1) }
         ensures flash { self.new.1 ≡ self.old.1 }
     {
         self.keyboard.setup(packet);
@@ -185,9 +185,9 @@ impl<D: Defaults, K: HoldsKeyboard<D> + Drop, F: NorFlash + Drop> Endpoints
     }
 
     fn out(&mut self, packet: &[u8]) -> EpAnswer
-        ensures told { (start : List ℕ) (past : List Call) → RunsSince D.defaults start past self.old.0 (F.image self.old.1)
+        ensures reported { (start : List ℕ) (past : List Call) → RunsSince D.defaults start past self.old.0 (F.image self.old.1)
             → (answer : Answer) × RunsSince D.defaults start (Out packet.now answer ∷ past) self.new.0 (F.image self.new.1) × (result ≡ plain answer) }
-        ensures stands { (calls : List EpCall) → StandsForUsb D.defaults calls self.old.0 (F.image self.old.1) → StandsForUsb D.defaults (Eps.Out packet.now result ∷ calls) self.new.0 (F.image self.new.1) }
+        ensures refines { (calls : List EpCall) → RefinesUsb D.defaults calls self.old.0 (F.image self.old.1) → RefinesUsb D.defaults (Eps.Out packet.now result ∷ calls) self.new.0 (F.image self.new.1) }
         ensures flash { self.new.1 ≡ self.old.1 }
     {
         let answer = self.keyboard.out(packet);
@@ -197,9 +197,9 @@ impl<D: Defaults, K: HoldsKeyboard<D> + Drop, F: NorFlash + Drop> Endpoints
     }
 
     fn in_packet(&mut self) -> EpAnswer
-        ensures told { (start : List ℕ) (past : List Call) → RunsSince D.defaults start past self.old.0 (F.image self.old.1)
+        ensures reported { (start : List ℕ) (past : List Call) → RunsSince D.defaults start past self.old.0 (F.image self.old.1)
             → (answer : Answer) × RunsSince D.defaults start (In answer ∷ past) self.new.0 (F.image self.new.1) × (result ≡ plain answer) }
-        ensures stands { (calls : List EpCall) → StandsForUsb D.defaults calls self.old.0 (F.image self.old.1) → StandsForUsb D.defaults (Eps.In result ∷ calls) self.new.0 (F.image self.new.1) }
+        ensures refines { (calls : List EpCall) → RefinesUsb D.defaults calls self.old.0 (F.image self.old.1) → RefinesUsb D.defaults (Eps.In result ∷ calls) self.new.0 (F.image self.new.1) }
         ensures flash { self.new.1 ≡ self.old.1 }
     {
         let answer = self.keyboard.in_packet();
@@ -208,9 +208,9 @@ impl<D: Defaults, K: HoldsKeyboard<D> + Drop, F: NorFlash + Drop> Endpoints
     }
 
     fn poll(&mut self) -> Option<Report>
-        ensures told { (start : List ℕ) (past : List Call) → RunsSince D.defaults start past self.old.0 (F.image self.old.1)
+        ensures reported { (start : List ℕ) (past : List Call) → RunsSince D.defaults start past self.old.0 (F.image self.old.1)
             → RunsSince D.defaults start (Polled (option_map (λ r. r.items) result) ∷ past) self.new.0 (F.image self.new.1) }
-        ensures stands { (calls : List EpCall) → StandsForUsb D.defaults calls self.old.0 (F.image self.old.1) → StandsForUsb D.defaults (Eps.Polled (option_map (λ r. r.items) result) ∷ calls) self.new.0 (F.image self.new.1) }
+        ensures refines { (calls : List EpCall) → RefinesUsb D.defaults calls self.old.0 (F.image self.old.1) → RefinesUsb D.defaults (Eps.Polled (option_map (λ r. r.items) result) ∷ calls) self.new.0 (F.image self.new.1) }
     {
         match self.keyboard.poll() {
             Some(report) => Some(short(&report)),
@@ -219,16 +219,16 @@ impl<D: Defaults, K: HoldsKeyboard<D> + Drop, F: NorFlash + Drop> Endpoints
     }
 
     fn bus_reset(&mut self)
-        ensures told { (start : List ℕ) (past : List Call) → RunsSince D.defaults start past self.old.0 (F.image self.old.1)
+        ensures reported { (start : List ℕ) (past : List Call) → RunsSince D.defaults start past self.old.0 (F.image self.old.1)
             → RunsSince D.defaults start (BusReset ∷ past) self.new.0 (F.image self.new.1) }
-        ensures stands { (calls : List EpCall) → StandsForUsb D.defaults calls self.old.0 (F.image self.old.1) → StandsForUsb D.defaults (Eps.BusReset ∷ calls) self.new.0 (F.image self.new.1) }
+        ensures refines { (calls : List EpCall) → RefinesUsb D.defaults calls self.old.0 (F.image self.old.1) → RefinesUsb D.defaults (Eps.BusReset ∷ calls) self.new.0 (F.image self.new.1) }
     {
         self.keyboard.bus_reset();
     }
 }
 
 impl<D: Defaults, K: HoldsKeyboard<D> + Drop, F: NorFlash + Drop> Works for UsbKeyboardOf<D, K, F> {
-    ghost use Rattle.usb_keyboard.specs.ties.Stands.{StepIs};
+    ghost use Rattle.usb_keyboard.specs.representation.Relation.{StepIs};
 
     ghost works = { λ k n. StepIs D.defaults k.0 (F.image k.1) n.0 (F.image n.1) };
 
@@ -239,7 +239,7 @@ impl<D: Defaults, K: HoldsKeyboard<D> + Drop, F: NorFlash + Drop> Works for UsbK
 
 impl<D: Defaults, K: HoldsKeyboard<D> + Drop, F: NorFlash + Drop> ScansMatrix
     for UsbKeyboardOf<D, K, F> {
-    ghost use Rattle.usb_keyboard.specs.ties.Stands.{ScanIs};
+    ghost use Rattle.usb_keyboard.specs.representation.Relation.{ScanIs};
 
     ghost scans = { λ k rows n. ScanIs D.defaults k.0 (F.image k.1) rows n.0 (F.image n.1) };
 

@@ -5,21 +5,21 @@
 //! make whole control transfers, for a stack that keeps endpoint 0 to itself, and know no lock. Each of its calls says how the session goes
 //! on, from the image that the keyboard started on. `UsbKeyboardOf` has a maker's own defaults, and a keyboard that is its own or
 //! is lent (`HoldsKeyboard`), and all of this holds for them, and where `usb_device::Forgetting` stands before it
-//! (`laws::stored_where_forgotten`).
+//! (`theorems::stored_where_forgotten`).
 //!
 //! The guarantee: a feature command that the host saw the end of is in the flash, also behind every power loss, until a later
-//! command is accepted that writes the entry (`laws::seen_is_stored`, `laws::stored_until_written`). The commands accepted since
+//! command is accepted that writes the entry (`theorems::seen_is_stored`, `theorems::stored_until_written`). The commands accepted since
 //! are those that the host sent behind that status stage: of one command, another, and the first again, the last stays. Behind a
 //! lock and a pace the keyboard accepts no command while the lock is set, and at most one for each pace
-//! (`laws::accepted_behind_a_guard`), also where `usb_device::Forgetting` stands between (`laws::accepted_where_forgotten`).
+//! (`theorems::accepted_behind_a_guard`), also where `usb_device::Forgetting` stands between (`theorems::accepted_where_forgotten`).
 //!
 //! What `UsbDevice` says of the device behind it names no first image. So that a session began on what the power loss before
-//! it left is said by the clauses of `UsbKeyboard`, and is a premise of `laws::stored_until_written`.
+//! it left is said by the clauses of `UsbKeyboard`, and is a premise of `theorems::stored_until_written`.
 #![tactic(auto)]
 
 mod device;
 mod held;
-pub mod laws;
+pub mod theorems;
 mod transfers;
 
 pub use device::{UsbKeyboard, UsbKeyboardOf};

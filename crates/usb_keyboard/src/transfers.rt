@@ -8,8 +8,8 @@ ghost use Rattle.keyboard.specs.Endpoint.{view_after};
 ghost use Rattle.keyboard.specs.Single.{NoneFails};
 ghost use Rattle.usb_keyboard.specs.Checks.{IsChecked, FailsBy, read_answer};
 ghost use Rattle.usb_keyboard.specs.Whole.{IsWritten, Fails, HasNoEffect, Stores, IsRead, IsUnread};
-ghost use Rattle.usb_keyboard.specs.ties.Stands.{RunsSince};
-ghost use Rattle.usb_keyboard.specs.ties.Whole.{Gives, IsStatusStage, NotConfirmed, Receives, NotReceived};
+ghost use Rattle.usb_keyboard.specs.representation.Relation.{RunsSince};
+ghost use Rattle.usb_keyboard.specs.representation.Whole.{Gives, IsStatusStage, NotConfirmed, Receives, NotReceived};
 
 use crate::{HoldsKeyboard, UsbKeyboardOf};
 use arrayvec::ArrayVec;

@@ -13,7 +13,7 @@ use Rattle.keyboard.proofs.Sessions.{orderly}
 use Rattle.world.specs.Acknowledged.{once_settled, codes_after, once_caught, codes_caught, start_codes, codes_at_start, codes_now, IsOneOf}
 use Rattle.world.specs.History.{Session, session_with, session, flash_after, image_after, EachStep}
 use Rattle.world.specs.Kinds.{Step, Kind, starts, calls, looks, kind}
-use Rattle.world.specs.Lawful.{IsAnswered}
+use Rattle.world.specs.Conforming.{IsAnswered}
 use Rattle.world.proofs.Here.{here}
 use Rattle.world.proofs.Restarting.{starts_legally}
 
@@ -177,6 +177,6 @@ module _ (defaults : DefaultCodes) where
       let now : Session = session start history in
       let there = here defaults start history h in
       let shown : keymap defaults (flash_after start history).image layer key ≡ changed defaults (keymap defaults now.first) (settled_of (accepted defaults now.first now.past)) layer key
-      = ap (λ (image : List ℕ). keymap defaults image layer key) (sym there.image) ∙ (orderly defaults now.first now.past there.lawful).kept layer key l k in
+      = ap (λ (image : List ℕ). keymap defaults image layer key) (sym there.image) ∙ (orderly defaults now.first now.past there.conforming).kept layer key l k in
       subst (λ (x : ℕ). IsOneOf x (codes_now defaults start history layer key)) (sym shown)
       (settled_codes (accepted defaults now.first now.past) (keymap defaults now.first) layer key (codes_at_start defaults start history layer key) (at_start start history layer key l k h))

@@ -23,7 +23,7 @@ use Rattle.keyboard.specs.Bounded.{counted, steps_since, accepted_image}
 use Rattle.keyboard.specs.Calls.{Call, Scanned, SetUp, Out, In, Polled, Worked, BusReset, image_after as call_image, EachCall}
 use Rattle.keyboard.specs.Commands.{working}
 use Rattle.keyboard.specs.Fate.{works, settled, failed, ended_by}
-use Rattle.keyboard.specs.Lawful.{IsAnswered as IsCallAnswered, WorkedOn}
+use Rattle.keyboard.specs.Conforming.{IsAnswered as IsCallAnswered, WorkedOn}
 use Rattle.keyboard.specs.Operated.{Works}
 use Rattle.keyboard.proofs.Bounding.{steps_since-same, steps_since-more}
 use Rattle.keyboard.proofs.Effects as keyboard
@@ -34,7 +34,7 @@ use Rattle.world.specs.declared.event.Event.TheVariants as event
 use Rattle.world.specs.declared.event.Answer.{Answer}
 use Rattle.world.specs.Kinds.{Step, Kind, starts, calls, looks, kind_of, kind}
 use Rattle.world.specs.History.{Session, session_with, session, host_calls, flash_after, image_after, EachStep}
-use Rattle.world.specs.Lawful.{IsAnswered}
+use Rattle.world.specs.Conforming.{IsAnswered}
 use Rattle.world.specs.Order.{found_by}
 use Rattle.world.specs.Erases.{next_in, made_in, with_erase, erases, is_same, unless_same, commits, with_cut, cuts, with_failure, failures, ErasesSeldom}
 use Rattle.world.proofs.Here.{Effect, starts_anew, is_called, is_look, effect, Here, here}
@@ -168,7 +168,7 @@ module _ (defaults : DefaultCodes) where
   unfolding next_seq
   commits_one old new t = rw t.active_is (other_number (active old) (target_page old))
 
-  -- ---- a turn that is under way
+  -- ---- a compaction that is under way
 
   -- the command at work has made an operation, and there is no room yet
   record Opened (now : Session) (image : List ℕ) : Type 0 where
@@ -177,7 +177,7 @@ module _ (defaults : DefaultCodes) where
     begun : 1 ≤ steps_since now.past
     full : HasRoom image → ⊥
 
-  -- as many erases at most; or one more, while a turn is under way
+  -- as many erases at most; or one more, while a compaction is under way
   data Bound (now : Session) (image : List ℕ) (erased ended : ℕ) : Type 0 where
     closed : erased ≤ ended → Bound now image erased ended
     opened : Opened now image → erased ≤ suc ended → Bound now image erased ended
@@ -202,7 +202,7 @@ module _ (defaults : DefaultCodes) where
       → keyboard.Effect defaults now.first now.past call → new ≡ old → before ≤ after → Bound now old erased before → Bound (record { first = now.first; past = call ∷ now.past }) new erased after
   no_work now call old new erased before after h c n e i m (closed l) = closed (omega (arith, l, m))
   no_work now call old new erased before after h c n (keyboard.stays k a s) i m (opened o l) =
-      let works_on : working defaults now.first (call ∷ now.past) ≡ working defaults now.first now.past = working_after defaults now.first now.past call (working defaults now.first now.past) (after_stays defaults now.first now.past call (orderly defaults now.first now.past h.lawful) k a s) in
+      let works_on : working defaults now.first (call ∷ now.past) ≡ working defaults now.first now.past = working_after defaults now.first now.past call (working defaults now.first now.past) (after_stays defaults now.first now.past call (orderly defaults now.first now.past h.conforming) k a s) in
       let made : steps_since (call ∷ now.past) ≡ steps_since now.past = steps_since-same call now.past c a in
       opened (record { command = o.command; works_on = works_on ∙ o.works_on; begun = omega (arith, made, o.begun); full = λ r. o.full (subst (λ (x : List ℕ). HasRoom x) i r) }) (omega (arith, l, m))
   no_work now call old new erased before after h c n (keyboard.takes command k a s f) i m (opened o l) = absurd (f (rw o.works_on refl))
@@ -216,7 +216,7 @@ module _ (defaults : DefaultCodes) where
   still_works now command new h (keyboard.settles other k a s e) w = cc
   still_works now command new h (keyboard.fails other k a s e) w = cc
 
-  -- a step of a turn that goes on
+  -- a step of a compaction that goes on
   goes_on : (now : Session) (command : Command) (old new : List ℕ) (erased before after : ℕ) → working defaults now.first (Worked Working new ∷ now.past) ≡ Some command
       → (HasRoom old → ⊥) → ((seq : ℕ) → active old ≡ Some (target_page old, seq) → ⊥) → Turns defaults old new → erased ≤ suc before → Ends now old new (calls (Worked Working new)) before after
       → Bound (record { first = now.first; past = Worked Working new ∷ now.past }) new erased after
@@ -258,7 +258,7 @@ module _ (defaults : DefaultCodes) where
       closed (omega (arith, most, fewer))
   by_answer now command Working old new found erased before after h on a w m b =
       let few = (w.advances.before_last refl).0 in
-      goes_on now command old new (with_erase (made_in defaults now found) erased) before after (still_works now command new h.lawful (keyboard.effect defaults now.first now.past (Worked Working new) a) on) (w.advances.no_room few)
+      goes_on now command old new (with_erase (made_in defaults now found) erased) before after (still_works now command new h.conforming (keyboard.effect defaults now.first now.past (Worked Working new) a) on) (w.advances.no_room few)
       (not_active defaults now.first now.past command old Working new w (w.advances.turn_before few)) (w.advances.before_last refl).1 (at_most now old found erased before b) m
 
   -- where no command works nothing is made
@@ -289,7 +289,7 @@ module _ (defaults : DefaultCodes) where
   cut_off now (Some command) old new found erased before after e m b = (let most = at_most now old found erased before b in let more = m.cut command refl e in omega (arith, most, more))
 
   bare : (now : Session) (flash : SimValue) → Here defaults now flash → Here defaults now (record { image = flash.image; armed = None; operations = 0; faults = 0 })
-  bare now flash h = record { lawful = h.lawful; image = h.image }
+  bare now flash h = record { conforming = h.conforming; image = h.image }
 
   called : (now : Session) (old new : SimValue) (call : Call) (found : Option SimValue) (erased before after : ℕ) → Here defaults now old → IsCallAnswered defaults now.first now.past call → call_image now.first (call ∷ now.past) ≡ new.image → OnlyWorks found (calls call)
       → Ends now old.image new.image (calls call) before after → Bound now old.image erased before → Bound (record { first = now.first; past = call ∷ now.past }) new.image (with_erase (made_in defaults now found) erased) after

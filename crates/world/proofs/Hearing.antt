@@ -12,19 +12,19 @@ use Rattle.layers.specs.Codes.{DefaultCodes}
 use Rattle.keyboard.specs.Calls.{Polled, EachCall}
 use Rattle.keyboard.specs.Effects.{protocol_after}
 use Rattle.keyboard.specs.Feature.{yes, no}
-use Rattle.keyboard.specs.Lawful as keyboard
-use Rattle.session_law.specs.Heard.{with_heard, Hears, at_start, one_more, NoneOrServed, none_kept}
-use Rattle.session_law.specs.Read.{IsReadAs}
-use Rattle.session_law.proofs.Sending.{sent_is_wanted}
-use Rattle.session_law.proofs.Fetching.{fetched_is_served, gathered_is_served}
-use Rattle.session_law.proofs.Reading.{read_is_wanted}
+use Rattle.keyboard.specs.Conforming as keyboard
+use Rattle.session_theorem.specs.Heard.{with_heard, Hears, at_start, one_more, NoneOrServed, none_kept}
+use Rattle.session_theorem.specs.Read.{IsReadAs}
+use Rattle.session_theorem.proofs.Sending.{sent_is_wanted}
+use Rattle.session_theorem.proofs.Fetching.{fetched_is_served, gathered_is_served}
+use Rattle.session_theorem.proofs.Reading.{read_is_wanted}
 use Rattle.world.specs.declared.event.Event.{Event}
 use Rattle.world.specs.declared.event.Event.TheVariants.{Scan, Setup, OutPacket, InPacket, Poll, Work, WorkFault, Cut, CutInWork, BusReset, Entry, SlotAt, Leds}
 use Rattle.world.specs.declared.event.Answer.{Answer}
 use Rattle.world.specs.declared.event.Answer.TheVariants.{Done, Ack, Nak, Sent, Worked, Restarted, SlotIs, NoSlot}
-use Rattle.world.specs.Kinds.{Step, Kind, starts, calls, looks, kind, as_answer, bytes_told}
+use Rattle.world.specs.Kinds.{Step, Kind, starts, calls, looks, kind, as_answer, bytes_reported}
 use Rattle.world.specs.History.{Session, session_with, session, heard_in, host_calls, flash_after, EachStep}
-use Rattle.world.specs.Lawful.{SlotAnswer, Answered, IsAnswered, IsSent}
+use Rattle.world.specs.Conforming.{SlotAnswer, Answered, IsAnswered, IsSent}
 use Rattle.world.specs.Readings.{ReadsWanted, KeepsServed, GathersServed}
 use Rattle.world.proofs.Here.{here}
 use Rattle.world.proofs.Keeping.{IsCutOff, KeptIfFetched, kept_first, kept_over_cut, kept_after, where_fetched}
@@ -32,18 +32,18 @@ use Rattle.world.proofs.Keeping.{IsCutOff, KeptIfFetched, kept_first, kept_over_
 -- what the host was told before the session, of which it keeps the served descriptor where it fetched it, else none, and that
 -- it hears the session
 record Hearing (now : Session) (host : List HostCall) : Type 0 where
-  pub told_before : List HostCall
-  pub hears : Hears told_before now.past host
-  pub none : gathering told_before ≡ None
-  pub keeps : NoneOrServed (kept told_before)
-  pub cut_off : IsCutOff told_before
-  pub fetched : KeptIfFetched told_before
+  pub reported_before : List HostCall
+  pub hears : Hears reported_before now.past host
+  pub none : gathering reported_before ≡ None
+  pub keeps : NoneOrServed (kept reported_before)
+  pub cut_off : IsCutOff reported_before
+  pub fetched : KeptIfFetched reported_before
 
 -- an answer that is no report
-pub clash : {A : Type 0} (answer other : Answer) (bytes : List ℕ) (reading : Reading) → answer ≡ other → bytes_told other ≡ None
+pub clash : {A : Type 0} (answer other : Answer) (bytes : List ℕ) (reading : Reading) → answer ≡ other → bytes_reported other ≡ None
     → answer ≡ Sent (record { items = bytes }) reading → A
 clash answer other bytes reading a n e =
-    let some_is_none = sym (ap bytes_told e) ∙ ap bytes_told a ∙ n in
+    let some_is_none = sym (ap bytes_reported e) ∙ ap bytes_reported a ∙ n in
     cc
 
 pub of_slot : {A : Type 0} (answer : Answer) (bytes : List ℕ) (reading : Reading) (image : List ℕ) (page slot : ℕ) → SlotAnswer image page slot answer
@@ -51,15 +51,15 @@ pub of_slot : {A : Type 0} (answer : Answer) (bytes : List ℕ) (reading : Readi
 of_slot answer bytes reading image page slot (yes p a) e = clash answer (SlotIs (slot_at image page slot)) bytes reading a refl e
 of_slot answer bytes reading image page slot (no p a) e = clash answer NoSlot bytes reading a refl e
 
-pub of_endpoint : (answer : EpAnswer) → bytes_told (as_answer answer) ≡ None
+pub of_endpoint : (answer : EpAnswer) → bytes_reported (as_answer answer) ≡ None
 of_endpoint ep.Ack = refl
 of_endpoint ep.Nak = refl
 of_endpoint (ep.Packet packet) = refl
 of_endpoint (ep.Stall why) = refl
 
-abbrev reading_told : Answer → Reading
-reading_told (Sent bytes reading) = reading
-reading_told _ = Unread
+abbrev reading_reported : Answer → Reading
+reading_reported (Sent bytes reading) = reading
+reading_reported _ = Unread
 
 abbrev pub bytes_or_none : Option (List ℕ) → List ℕ
 bytes_or_none (Some bytes) = bytes
@@ -70,15 +70,15 @@ module _ (defaults : DefaultCodes) where
       → Hearing (session_with k image before) (with_heard (heard_in k memory) host)
   unfolding gathering kept
   hearing_with before image starts memory host l h = record {
-    told_before = lost ∷ host;
+    reported_before = lost ∷ host;
     hears = at_start;
     none = refl;
-    keeps = fetched_is_served defaults before.first before.past h.told_before host l h.hears h.none h.keeps;
+    keeps = fetched_is_served defaults before.first before.past h.reported_before host l h.hears h.none h.keeps;
     cut_off = tt;
-    fetched = kept_over_cut host (kept_after defaults before.first before.past h.told_before host l h.hears h.none h.keeps h.cut_off h.fetched);
+    fetched = kept_over_cut host (kept_after defaults before.first before.past h.reported_before host l h.hears h.none h.keeps h.cut_off h.fetched);
   }
   hearing_with before image (calls call) memory host l h = record {
-    told_before = h.told_before;
+    reported_before = h.reported_before;
     hears = one_more call memory before.past host h.hears;
     none = h.none;
     keeps = h.keeps;
@@ -89,9 +89,9 @@ module _ (defaults : DefaultCodes) where
 
   hearing : (start : SimValue) (past : List Step) → EachStep (IsAnswered defaults) start past → Hearing (session start past) (host_calls past)
   unfolding gathering kept
-  hearing start [] h = record { told_before = []; hears = at_start; none = refl; keeps = none_kept refl; cut_off = tt; fetched = kept_first }
+  hearing start [] h = record { reported_before = []; hears = at_start; none = refl; keeps = none_kept refl; cut_off = tt; fetched = kept_first }
   hearing start (step ∷ before) h =
-      hearing_with (session start before) step.flash.image (kind step) (not step.refused) (host_calls before) (here defaults start before h.1).lawful
+      hearing_with (session start before) step.flash.image (kind step) (not step.refused) (host_calls before) (here defaults start before h.1).conforming
       (hearing start before h.1)
 
   read_of_sent : (now : Session) (host : List HostCall) (report : Option (List ℕ)) (answer : Answer) (refused : Bool) (bytes : List ℕ) (reading : Reading)
@@ -99,20 +99,20 @@ module _ (defaults : DefaultCodes) where
       → IsSent (protocol_after now.past) host report answer refused → answer ≡ Sent (record { items = bytes }) reading → IsReadAs defaults now.first now.past host bytes reading
   read_of_sent now host None answer refused bytes reading l h p s e = clash answer Nak bytes reading s.0 refl e
   read_of_sent now host (Some sent) answer refused bytes reading l h p (read, a, r, n) e =
-      let same_bytes = ap (λ (x : Answer). bytes_or_none (bytes_told x)) (sym a ∙ e) in
-      let same_reading = ap reading_told (sym a ∙ e) in
-      let by_law = read_is_wanted defaults now.first now.past host sent read (sent_is_wanted defaults now.first now.past sent p)
-      (fetched_is_served defaults now.first now.past h.told_before host l h.hears h.none h.keeps) r in
+      let same_bytes = ap (λ (x : Answer). bytes_or_none (bytes_reported x)) (sym a ∙ e) in
+      let same_reading = ap reading_reported (sym a ∙ e) in
+      let by_theorem = read_is_wanted defaults now.first now.past host sent read (sent_is_wanted defaults now.first now.past sent p)
+      (fetched_is_served defaults now.first now.past h.reported_before host l h.hears h.none h.keeps) r in
       subst (λ (x : List ℕ). IsReadAs defaults now.first now.past host x reading) same_bytes
-      (subst (λ (x : Reading). IsReadAs defaults now.first now.past host sent x) same_reading by_law)
+      (subst (λ (x : Reading). IsReadAs defaults now.first now.past host sent x) same_reading by_theorem)
 
   reads_by : (now : Session) (host : List HostCall) (old : SimValue) (event : Event) (answer : Answer) (refused : Bool) (new : SimValue) (bytes : List ℕ) (reading : Reading)
       → EachCall (keyboard.IsAnswered defaults) now.first now.past → Hearing now host → Answered defaults now host old event answer refused new
       → answer ≡ Sent (record { items = bytes }) reading → IsReadAs defaults now.first now.past host bytes reading
   reads_by now host old (Scan scan) answer refused new bytes reading l h a e = clash answer Done bytes reading a.0 refl e
   reads_by now host old (Setup setup) answer refused new bytes reading l h a e = clash answer Ack bytes reading a.0 refl e
-  reads_by now host old (OutPacket packet) answer refused new bytes reading l h (by_ep, a, lawful, u) e = clash answer (as_answer by_ep) bytes reading a (of_endpoint by_ep) e
-  reads_by now host old InPacket answer refused new bytes reading l h (by_ep, a, lawful, f, m) e = clash answer (as_answer by_ep) bytes reading a (of_endpoint by_ep) e
+  reads_by now host old (OutPacket packet) answer refused new bytes reading l h (by_ep, a, conforming, u) e = clash answer (as_answer by_ep) bytes reading a (of_endpoint by_ep) e
+  reads_by now host old InPacket answer refused new bytes reading l h (by_ep, a, conforming, f, m) e = clash answer (as_answer by_ep) bytes reading a (of_endpoint by_ep) e
   reads_by now host old Poll answer refused new bytes reading l h (report, p, f, s) e = read_of_sent now host report answer refused bytes reading l h p s e
   reads_by now host old Work answer refused new bytes reading l h (work, a, w, r) e = clash answer (Worked work) bytes reading a refl e
   reads_by now host old (WorkFault mask) answer refused new bytes reading l h (work, a, w, r) e = clash answer (Worked work) bytes reading a refl e
@@ -127,22 +127,22 @@ module _ (defaults : DefaultCodes) where
   reads_wanted start [] h = tt
   reads_wanted start (step ∷ before) h = (
     λ bytes reading e. reads_by (session start before) (host_calls before) (flash_after start before) step.event step.answer step.refused step.flash bytes reading
-        (here defaults start before h.1).lawful (hearing start before h.1) h.0 e,
+        (here defaults start before h.1).conforming (hearing start before h.1) h.0 e,
     reads_wanted start before h.1,
   )
 
   kept_by : (now : Session) (host : List HostCall) → EachCall (keyboard.IsAnswered defaults) now.first now.past → Hearing now host → NoneOrServed (kept host) × KeptIfFetched host
   kept_by now host l h = (
-    fetched_is_served defaults now.first now.past h.told_before host l h.hears h.none h.keeps,
-    kept_after defaults now.first now.past h.told_before host l h.hears h.none h.keeps h.cut_off h.fetched,
+    fetched_is_served defaults now.first now.past h.reported_before host l h.hears h.none h.keeps,
+    kept_after defaults now.first now.past h.reported_before host l h.hears h.none h.keeps h.cut_off h.fetched,
   )
 
   pub keeps_served : (start : SimValue) (past : List Step) → EachStep (IsAnswered defaults) start past → KeepsServed start past
   keeps_served start past h =
-      let k = kept_by (session start past) (host_calls past) (here defaults start past h).lawful (hearing start past h) in
+      let k = kept_by (session start past) (host_calls past) (here defaults start past h).conforming (hearing start past h) in
       where_fetched (host_calls past) k.0 k.1
 
   pub gathers_served : (start : SimValue) (past : List Step) → EachStep (IsAnswered defaults) start past → GathersServed start past
   gathers_served start past h fetch gathers =
       let heard = hearing start past h in
-      gathered_is_served defaults (session start past).first (session start past).past heard.told_before (host_calls past) fetch (here defaults start past h).lawful heard.hears heard.none heard.keeps gathers
+      gathered_is_served defaults (session start past).first (session start past).past heard.reported_before (host_calls past) fetch (here defaults start past h).conforming heard.hears heard.none heard.keeps gathers

@@ -6,49 +6,49 @@ use Rattle.host.specs.Kept.{asks_for_report, wanted_length, text_length, gatheri
 use Rattle.layers.specs.Codes.{DefaultCodes}
 use Rattle.keyboard.specs.Calls.{Call, EachCall}
 use Rattle.keyboard.specs.Feature.{Where, yes, no}
-use Rattle.keyboard.specs.Lawful.{IsAnswered}
+use Rattle.keyboard.specs.Conforming.{IsAnswered}
 use Rattle.std.specs.Int.{div_ceil}
-use Rattle.session_law.specs.Fetched.{AreTaken, IsFetched}
-use Rattle.session_law.specs.Heard.{heard, with_heard, Hears, at_start, one_more, NoneOrServed, none_kept, served_kept}
-use Rattle.session_law.proofs.Keeping.{kept_is_fetched}
+use Rattle.session_theorem.specs.Fetched.{AreTaken, IsFetched}
+use Rattle.session_theorem.specs.Heard.{heard, with_heard, Hears, at_start, one_more, NoneOrServed, none_kept, served_kept}
+use Rattle.session_theorem.proofs.Keeping.{kept_is_fetched}
 
--- ---- a session is heard on top of what was told before
+-- ---- a session is heard on top of what was reported before
 
-record Over (told host : List HostCall) : Type 0 where
+record Over (reported host : List HostCall) : Type 0 where
   pub new : List HostCall
-  pub split : host ≡ new ++ told
+  pub split : host ≡ new ++ reported
 
-over_with : (o : Option HostCall) (told earlier : List HostCall) → Over told earlier → Over told (with_heard o earlier)
-over_with None told earlier h = h
-over_with (Some call) told earlier h = record { new = call ∷ h.new; split = ap (λ (l : List HostCall). call ∷ l) h.split }
+over_with : (o : Option HostCall) (reported earlier : List HostCall) → Over reported earlier → Over reported (with_heard o earlier)
+over_with None reported earlier h = h
+over_with (Some call) reported earlier h = record { new = call ∷ h.new; split = ap (λ (l : List HostCall). call ∷ l) h.split }
 
-over : (told : List HostCall) (past : List Call) (host : List HostCall) → Hears told past host → Over told host
-over told past host at_start = record { new = []; split = refl }
-over told past host (one_more call memory before earlier h) = over_with (heard call memory) told earlier (over told before earlier h)
+over : (reported : List HostCall) (past : List Call) (host : List HostCall) → Hears reported past host → Over reported host
+over reported past host at_start = record { new = []; split = refl }
+over reported past host (one_more call memory before earlier h) = over_with (heard call memory) reported earlier (over reported before earlier h)
 
 -- ---- a fetch is of one session
 
--- nothing was told before a session, or at last that the keyboard was cut off
+-- nothing was reported before a session, or at last that the keyboard was cut off
 abbrev pub IsCutOff : List HostCall → Type 0
 IsCutOff [] = Unit {0}
 IsCutOff (lost ∷ before) = Unit {0}
 IsCutOff (_ ∷ before) = ⊥
 
-within : (packets new told : List HostCall) (setup : List ℕ) (before : List HostCall) → IsCutOff told → AreTaken packets → new ++ told ≡ packets ++ (was_set_up setup ∷ before) → Over told before
+within : (packets new reported : List HostCall) (setup : List ℕ) (before : List HostCall) → IsCutOff reported → AreTaken packets → new ++ reported ≡ packets ++ (was_set_up setup ∷ before) → Over reported before
 within [] [] [] setup before c t e = cc
-within [] [] (lost ∷ told) setup before c t e = cc
-within [] [] (was_set_up bytes ∷ told) setup before c t e = absurd c
-within [] [] (got_packet bytes memory ∷ told) setup before c t e = absurd c
-within [] (call ∷ new) told setup before c t e = (let rest : new ++ told ≡ before = cc in record { new = new; split = sym rest })
+within [] [] (lost ∷ reported) setup before c t e = cc
+within [] [] (was_set_up bytes ∷ reported) setup before c t e = absurd c
+within [] [] (got_packet bytes memory ∷ reported) setup before c t e = absurd c
+within [] (call ∷ new) reported setup before c t e = (let rest : new ++ reported ≡ before = cc in record { new = new; split = sym rest })
 within (got_packet bytes memory ∷ packets) [] [] setup before c t e = cc
-within (got_packet bytes memory ∷ packets) [] (lost ∷ told) setup before c t e = cc
-within (got_packet bytes memory ∷ packets) [] (was_set_up other ∷ told) setup before c t e = absurd c
-within (got_packet bytes memory ∷ packets) [] (got_packet other taken ∷ told) setup before c t e = absurd c
-within (got_packet bytes memory ∷ packets) (call ∷ new) told setup before c t e =
-    let rest : new ++ told ≡ packets ++ (was_set_up setup ∷ before) = cc in
-    within packets new told setup before c t.1 rest
-within (was_set_up bytes ∷ packets) new told setup before c t e = absurd t
-within (lost ∷ packets) new told setup before c t e = absurd t
+within (got_packet bytes memory ∷ packets) [] (lost ∷ reported) setup before c t e = cc
+within (got_packet bytes memory ∷ packets) [] (was_set_up other ∷ reported) setup before c t e = absurd c
+within (got_packet bytes memory ∷ packets) [] (got_packet other taken ∷ reported) setup before c t e = absurd c
+within (got_packet bytes memory ∷ packets) (call ∷ new) reported setup before c t e =
+    let rest : new ++ reported ≡ packets ++ (was_set_up setup ∷ before) = cc in
+    within packets new reported setup before c t.1 rest
+within (was_set_up bytes ∷ packets) new reported setup before c t e = absurd t
+within (lost ∷ packets) new reported setup before c t e = absurd t
 
 -- a fetch, its parts taken one by one
 IsSplit : List HostCall → List HostCall → List HostCall → List ℕ → List HostCall → Type 0
@@ -60,9 +60,9 @@ record IsWhole (packets : List HostCall) (setup : List ℕ) : Type 0 where
   pub count : length packets ≡ div_ceil text_length 8
   pub taken : AreTaken packets
 
-fetched_from : (told host later packets : List HostCall) (setup : List ℕ) (before : List HostCall) → IsWhole packets setup → IsSplit host later packets setup (before ++ told) → IsFetched told host
+fetched_from : (reported host later packets : List HostCall) (setup : List ℕ) (before : List HostCall) → IsWhole packets setup → IsSplit host later packets setup (before ++ reported) → IsFetched reported host
 unfolding IsSplit
-fetched_from told host later packets setup before w e = record {
+fetched_from reported host later packets setup before w e = record {
   later = later;
   packets = packets;
   setup = setup;
@@ -78,43 +78,43 @@ fetched_ever : (host later packets : List HostCall) (setup : List ℕ) (before :
 fetched_ever host later packets setup before w e =
     fetched_from [] host later packets setup before w (subst (λ (b : List HostCall). IsSplit host later packets setup b) (sym (append-nil before)) e)
 
-whole_of : {told host : List HostCall} (f : IsFetched told host) → IsWhole f.packets f.setup
+whole_of : {reported host : List HostCall} (f : IsFetched reported host) → IsWhole f.packets f.setup
 whole_of f = record { asks = f.asks; enough = f.enough; count = f.count; taken = f.taken }
 
-one_later : (told host : List HostCall) (call : HostCall) → IsFetched told host → IsFetched told (call ∷ host)
+one_later : (reported host : List HostCall) (call : HostCall) → IsFetched reported host → IsFetched reported (call ∷ host)
 unfolding IsSplit
-one_later told host call f = fetched_from told (call ∷ host) (call ∷ f.later) f.packets f.setup f.before (whole_of f) (ap (λ (l : List HostCall). call ∷ l) f.split)
+one_later reported host call f = fetched_from reported (call ∷ host) (call ∷ f.later) f.packets f.setup f.before (whole_of f) (ap (λ (l : List HostCall). call ∷ l) f.split)
 
-either : (told new later packets : List HostCall) (setup : List ℕ) (before : List HostCall) → IsCutOff told → IsWhole packets setup → IsSplit (new ++ told) later packets setup before
-    → IsFetched [] told ⊎ IsFetched told (new ++ told)
+either : (reported new later packets : List HostCall) (setup : List ℕ) (before : List HostCall) → IsCutOff reported → IsWhole packets setup → IsSplit (new ++ reported) later packets setup before
+    → IsFetched [] reported ⊎ IsFetched reported (new ++ reported)
 unfolding IsSplit
-either told new [] packets setup before c w e =
-    let o = within packets new told setup before c w.taken e in
-    inr (fetched_from told (new ++ told) [] packets setup o.new w (subst (λ (b : List HostCall). IsSplit (new ++ told) [] packets setup b) o.split e))
-either told [] (call ∷ later) packets setup before c w e = inl (fetched_ever told (call ∷ later) packets setup before w e)
-either told (first ∷ new) (call ∷ later) packets setup before c w e =
-    let rest : new ++ told ≡ later ++ (packets ++ (was_set_up setup ∷ before)) = cc in
-    by_either (either told new later packets setup before c w rest)
+either reported new [] packets setup before c w e =
+    let o = within packets new reported setup before c w.taken e in
+    inr (fetched_from reported (new ++ reported) [] packets setup o.new w (subst (λ (b : List HostCall). IsSplit (new ++ reported) [] packets setup b) o.split e))
+either reported [] (call ∷ later) packets setup before c w e = inl (fetched_ever reported (call ∷ later) packets setup before w e)
+either reported (first ∷ new) (call ∷ later) packets setup before c w e =
+    let rest : new ++ reported ≡ later ++ (packets ++ (was_set_up setup ∷ before)) = cc in
+    by_either (either reported new later packets setup before c w rest)
   where
-    by_either : IsFetched [] told ⊎ IsFetched told (new ++ told) → IsFetched [] told ⊎ IsFetched told (first ∷ new ++ told)
+    by_either : IsFetched [] reported ⊎ IsFetched reported (new ++ reported) → IsFetched [] reported ⊎ IsFetched reported (first ∷ new ++ reported)
     by_either (inl f) = inl f
-    by_either (inr f) = inr (one_later told (new ++ told) first f)
+    by_either (inr f) = inr (one_later reported (new ++ reported) first f)
 
-before_or_in : (told host : List HostCall) → Over told host → IsCutOff told → IsFetched [] host → IsFetched [] told ⊎ IsFetched told host
+before_or_in : (reported host : List HostCall) → Over reported host → IsCutOff reported → IsFetched [] host → IsFetched [] reported ⊎ IsFetched reported host
 unfolding IsSplit
-before_or_in told host o c f =
+before_or_in reported host o c f =
     let ends : f.before ++ [] ≡ f.before = append-nil f.before in
     let parts : host ≡ f.later ++ (f.packets ++ (was_set_up f.setup ∷ f.before)) = rw ends at f.split in
-    subst (λ (h : List HostCall). IsFetched [] told ⊎ IsFetched told h) (sym o.split)
-    (either told o.new f.later f.packets f.setup f.before c (whole_of f) (sym o.split ∙ parts))
+    subst (λ (h : List HostCall). IsFetched [] reported ⊎ IsFetched reported h) (sym o.split)
+    (either reported o.new f.later f.packets f.setup f.before c (whole_of f) (sym o.split ∙ parts))
 
-all_later : (new told : List HostCall) → IsFetched [] told → IsFetched [] (new ++ told)
-all_later [] told f = f
-all_later (call ∷ new) told f = one_later [] (new ++ told) call (all_later new told f)
+all_later : (new reported : List HostCall) → IsFetched [] reported → IsFetched [] (new ++ reported)
+all_later [] reported f = f
+all_later (call ∷ new) reported f = one_later [] (new ++ reported) call (all_later new reported f)
 
-of_session : (told host : List HostCall) → IsFetched told host → IsFetched [] host
+of_session : (reported host : List HostCall) → IsFetched reported host → IsFetched [] host
 unfolding IsSplit
-of_session told host f = fetched_ever host f.later f.packets f.setup (f.before ++ told) (whole_of f) f.split
+of_session reported host f = fetched_ever host f.later f.packets f.setup (f.before ++ reported) (whole_of f) f.split
 
 -- ---- over all sessions
 
@@ -156,26 +156,26 @@ where_fetched host (none_kept e) h = no (λ f. (let some = h.1 f in let clash : 
 where_fetched host (served_kept e) h = yes (h.0 e) e
 
 module _ (defaults : DefaultCodes) where
-  pub kept_after : (start : List ℕ) (past : List Call) (told host : List HostCall) → EachCall (IsAnswered defaults) start past → Hears told past host → gathering told ≡ None → NoneOrServed (kept told)
-      → IsCutOff told → KeptIfFetched told → KeptIfFetched host
-  kept_after start past told host a h none k c before = (forth, back)
+  pub kept_after : (start : List ℕ) (past : List Call) (reported host : List HostCall) → EachCall (IsAnswered defaults) start past → Hears reported past host → gathering reported ≡ None → NoneOrServed (kept reported)
+      → IsCutOff reported → KeptIfFetched reported → KeptIfFetched host
+  kept_after start past reported host a h none k c before = (forth, back)
     where
-      o : Over told host
-      o = over told past host h
+      o : Over reported host
+      o = over reported past host h
 
-      in_session : kept host ≡ Some report_bytes ↔ ((kept told ≡ Some report_bytes) ⊎ IsFetched told host)
-      in_session = kept_is_fetched defaults start past told host a h none k
+      in_session : kept host ≡ Some report_bytes ↔ ((kept reported ≡ Some report_bytes) ⊎ IsFetched reported host)
+      in_session = kept_is_fetched defaults start past reported host a h none k
 
-      ever : (kept told ≡ Some report_bytes) ⊎ IsFetched told host → IsFetched [] host
-      ever (inl e) = subst (λ (x : List HostCall). IsFetched [] x) (sym o.split) (all_later o.new told (before.0 e))
-      ever (inr f) = of_session told host f
+      ever : (kept reported ≡ Some report_bytes) ⊎ IsFetched reported host → IsFetched [] host
+      ever (inl e) = subst (λ (x : List HostCall). IsFetched [] x) (sym o.split) (all_later o.new reported (before.0 e))
+      ever (inr f) = of_session reported host f
 
       forth : kept host ≡ Some report_bytes → IsFetched [] host
       forth e = ever (in_session.0 e)
 
-      by_session : IsFetched [] told ⊎ IsFetched told host → (kept told ≡ Some report_bytes) ⊎ IsFetched told host
+      by_session : IsFetched [] reported ⊎ IsFetched reported host → (kept reported ≡ Some report_bytes) ⊎ IsFetched reported host
       by_session (inl f) = inl (before.1 f)
       by_session (inr f) = inr f
 
       back : IsFetched [] host → kept host ≡ Some report_bytes
-      back f = in_session.1 (by_session (before_or_in told host o c f))
+      back f = in_session.1 (by_session (before_or_in reported host o c f))

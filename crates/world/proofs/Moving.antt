@@ -6,18 +6,18 @@ use Rattle.host.specs.declared.reading.Reading.{Reading}
 use Rattle.layers.specs.Codes.{DefaultCodes}
 use Rattle.keyboard.specs.Calls.{Call, Polled}
 use Rattle.keyboard.specs.Effects.{protocol_after}
-use Rattle.keyboard.specs.Lawful as keyboard
-use Rattle.session_law.specs.Due.{due}
-use Rattle.session_law.specs.Sent.{IsWantedAt}
-use Rattle.session_law.proofs.Sending.{sent_is_wanted}
-use Rattle.session_law.proofs.Following.{goes_on, not_again}
+use Rattle.keyboard.specs.Conforming as keyboard
+use Rattle.session_theorem.specs.Due.{due}
+use Rattle.session_theorem.specs.Sent.{IsWantedAt}
+use Rattle.session_theorem.proofs.Sending.{sent_is_wanted}
+use Rattle.session_theorem.proofs.Following.{goes_on, not_again}
 use Rattle.world.specs.declared.event.Event.{Event}
 use Rattle.world.specs.declared.event.Event.TheVariants.{Scan, Setup, OutPacket, InPacket, Poll, Work, WorkFault, Cut, CutInWork, BusReset, Entry, SlotAt, Leds}
 use Rattle.world.specs.declared.event.Answer.{Answer}
 use Rattle.world.specs.declared.event.Answer.TheVariants.{Done, Ack, Nak, Sent, Worked, Restarted}
-use Rattle.world.specs.Kinds.{Step, as_answer, bytes_told}
+use Rattle.world.specs.Kinds.{Step, as_answer, bytes_reported}
 use Rattle.world.specs.History.{Session, session, host_calls, flash_after, EachStep}
-use Rattle.world.specs.Lawful.{Answered, IsAnswered, IsSent}
+use Rattle.world.specs.Conforming.{Answered, IsAnswered, IsSent}
 use Rattle.world.specs.Moments.{report_of, SendsOnward, MovesOn}
 use Rattle.world.proofs.Hearing.{clash, of_slot, of_endpoint, bytes_or_none}
 
@@ -39,15 +39,15 @@ module _ (defaults : DefaultCodes) where
       → SendsOnward defaults now.first now.past bytes
   sent_onward now host None answer refused bytes reading p s e = clash answer Nak bytes reading s.0 refl e
   sent_onward now host (Some sent) answer refused bytes reading p (read, a, r, n) e =
-      let same : sent ≡ bytes = ap (λ (x : Answer). bytes_or_none (bytes_told x)) (sym a ∙ e) in
+      let same : sent ≡ bytes = ap (λ (x : Answer). bytes_or_none (bytes_reported x)) (sym a ∙ e) in
       subst (λ (x : List ℕ). SendsOnward defaults now.first now.past x) same (wanted_onward now.first now.past sent (sent_is_wanted defaults now.first now.past sent p))
 
   onward_by : (now : Session) (host : List HostCall) (old : SimValue) (event : Event) (answer : Answer) (refused : Bool) (new : SimValue) (bytes : List ℕ) (reading : Reading)
       → Answered defaults now host old event answer refused new → answer ≡ Sent (record { items = bytes }) reading → SendsOnward defaults now.first now.past bytes
   onward_by now host old (Scan scan) answer refused new bytes reading a e = clash answer Done bytes reading a.0 refl e
   onward_by now host old (Setup setup) answer refused new bytes reading a e = clash answer Ack bytes reading a.0 refl e
-  onward_by now host old (OutPacket packet) answer refused new bytes reading (by_ep, a, lawful, u) e = clash answer (as_answer by_ep) bytes reading a (of_endpoint by_ep) e
-  onward_by now host old InPacket answer refused new bytes reading (by_ep, a, lawful, f, m) e = clash answer (as_answer by_ep) bytes reading a (of_endpoint by_ep) e
+  onward_by now host old (OutPacket packet) answer refused new bytes reading (by_ep, a, conforming, u) e = clash answer (as_answer by_ep) bytes reading a (of_endpoint by_ep) e
+  onward_by now host old InPacket answer refused new bytes reading (by_ep, a, conforming, f, m) e = clash answer (as_answer by_ep) bytes reading a (of_endpoint by_ep) e
   onward_by now host old Poll answer refused new bytes reading (report, p, f, s) e = sent_onward now host report answer refused bytes reading p s e
   onward_by now host old Work answer refused new bytes reading (work, a, w, r) e = clash answer (Worked work) bytes reading a refl e
   onward_by now host old (WorkFault mask) answer refused new bytes reading (work, a, w, r) e = clash answer (Worked work) bytes reading a refl e

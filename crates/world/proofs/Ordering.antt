@@ -11,7 +11,7 @@ use Rattle.keyboard.specs.Bounded.{steps_since}
 use Rattle.keyboard.specs.Calls.{image_after as call_image}
 use Rattle.keyboard.specs.Commands.{working}
 use Rattle.keyboard.specs.Headers.{stood, OwnHeaders}
-use Rattle.keyboard.specs.Lawful.{WorkedOn}
+use Rattle.keyboard.specs.Conforming.{WorkedOn}
 use Rattle.keyboard.specs.Operated.{Works}
 use Rattle.keyboard.proofs.Heading.{headers_are_own}
 use Rattle.world.specs.declared.event.Event.{Event}
@@ -20,7 +20,7 @@ use Rattle.world.specs.declared.event.Answer.{Answer}
 use Rattle.world.specs.declared.event.Answer.TheVariants.{Worked}
 use Rattle.world.specs.Kinds.{Step}
 use Rattle.world.specs.History.{Session, session, host_calls, flash_after, EachStep}
-use Rattle.world.specs.Lawful.{Answered, IsAnswered, OperatedAs, MakesOn, WorksIn}
+use Rattle.world.specs.Conforming.{Answered, IsAnswered, OperatedAs, MakesOn, WorksIn}
 use Rattle.world.specs.Order.{found_by, TellsEnd, operations_in, EndsBy, IsNextOperation, WorksInOrder, WritesOwnHeader}
 use Rattle.world.proofs.Here.{Here, here}
 
@@ -61,7 +61,7 @@ module _ (defaults : DefaultCodes) where
         operation = m.step.operation;
         is_next = rw (← same) m.step.advances.in_order;
         makes = m.is_such;
-        ends = λ told. rw (← same, t told) ends;
+        ends = λ reported. rw (← same, t reported) ends;
       }
 
   by_answer : (now : Session) (command : Command) (before old : SimValue) (work : WorkAnswer) (event : Event) (answer : Answer) (new : SimValue) → working defaults now.first now.past ≡ Some command → (TellsEnd event → answer ≡ Worked work)
@@ -75,7 +75,7 @@ module _ (defaults : DefaultCodes) where
       → WorksIn defaults now before found work new → IsNextOperation defaults now command old event answer new
   worked now command before found old work event answer new w t e on =
       subst (λ (x : SimValue). IsNextOperation defaults now command x event answer new) (same_flash found old e)
-      (by_answer now command before found work event answer new w t (subst (λ (o : Option Command). WorkedOn defaults now.first now.past o work new.image) w on.lawful) on.operated)
+      (by_answer now command before found work event answer new w t (subst (λ (o : Option Command). WorkedOn defaults now.first now.past o work new.image) w on.conforming) on.operated)
 
   in_order : (now : Session) (heard : List HostCall) (before : SimValue) (event : Event) (answer : Answer) (refused : Bool) (new : SimValue) (command : Command) (old : SimValue) → Answered defaults now heard before event answer refused new
       → working defaults now.first now.past ≡ Some command → found_by event before ≡ Some old → IsNextOperation defaults now command old event answer new
@@ -84,10 +84,10 @@ module _ (defaults : DefaultCodes) where
   in_order now heard before (OutPacket packet) answer refused new command old a w e = no_step _ old e
   in_order now heard before InPacket answer refused new command old a w e = no_step _ old e
   in_order now heard before Poll answer refused new command old a w e = no_step _ old e
-  in_order now heard before Work answer refused new command old (work, is, on, r) w e = worked now command before before old work Work answer new w (λ told. is) e on
-  in_order now heard before (WorkFault mask) answer refused new command old (work, is, on, r) w e = worked now command before _ old work (WorkFault mask) answer new w (λ told. is) e on
+  in_order now heard before Work answer refused new command old (work, is, on, r) w e = worked now command before before old work Work answer new w (λ reported. is) e on
+  in_order now heard before (WorkFault mask) answer refused new command old (work, is, on, r) w e = worked now command before _ old work (WorkFault mask) answer new w (λ reported. is) e on
   in_order now heard before Cut answer refused new command old a w e = no_step _ old e
-  in_order now heard before (CutInWork mask) answer refused new command old (work, is, on, r) w e = worked now command before _ old work (CutInWork mask) answer new w (λ told. absurd told) e on
+  in_order now heard before (CutInWork mask) answer refused new command old (work, is, on, r) w e = worked now command before _ old work (CutInWork mask) answer new w (λ reported. absurd reported) e on
   in_order now heard before BusReset answer refused new command old a w e = no_step _ old e
   in_order now heard before (Entry layer key) answer refused new command old a w e = no_step _ old e
   in_order now heard before (SlotAt page slot) answer refused new command old a w e = no_step _ old e
@@ -111,10 +111,10 @@ module _ (defaults : DefaultCodes) where
   own now heard old (OutPacket packet) answer refused new h (by_ep, e, l, u) = kept now old new h u.0
   own now heard old InPacket answer refused new h (by_ep, e, l, f, m) = kept now old new h f
   own now heard old Poll answer refused new h (report, l, f, s) = kept now old new h f
-  own now heard old Work answer refused new h (work, e, w, r) = headers_are_own defaults now.first now.past work new.image w.lawful
-  own now heard old (WorkFault mask) answer refused new h (work, e, w, r) = headers_are_own defaults now.first now.past work new.image w.lawful
+  own now heard old Work answer refused new h (work, e, w, r) = headers_are_own defaults now.first now.past work new.image w.conforming
+  own now heard old (WorkFault mask) answer refused new h (work, e, w, r) = headers_are_own defaults now.first now.past work new.image w.conforming
   own now heard old Cut answer refused new h a = kept now old new h a.1.0
-  own now heard old (CutInWork mask) answer refused new h (work, e, w, r) = headers_are_own defaults now.first now.past work new.image w.lawful
+  own now heard old (CutInWork mask) answer refused new h (work, e, w, r) = headers_are_own defaults now.first now.past work new.image w.conforming
   own now heard old BusReset answer refused new h a = kept now old new h a.1.0
   own now heard old (Entry layer key) answer refused new h a = kept now old new h a.1.0
   own now heard old (SlotAt page slot) answer refused new h a = kept now old new h a.1.0

@@ -12,7 +12,7 @@ use Rattle.keyboard.specs.Restart.{RestartsLegally}
 use Rattle.keyboard.proofs.Confirming.{confirmed, kept_settled}
 use Rattle.world.specs.Kinds.{Step, Kind, starts, calls, looks, kind}
 use Rattle.world.specs.History.{Session, session_with, session, EachStep}
-use Rattle.world.specs.Lawful.{IsAnswered}
+use Rattle.world.specs.Conforming.{IsAnswered}
 use Rattle.world.specs.Restart.{StartsLegally, ConfirmsSettled, StartsWithConfirmed, at_first, goes_on, starts_anew, StartsChanged}
 use Rattle.world.proofs.Here.{here}
 use Rattle.world.proofs.Restarting.{starts_legally}
@@ -34,13 +34,13 @@ new_first looks image before e = cc
 
 module _ (defaults : DefaultCodes) where
   pub confirms_settled : (start : SimValue) (past : List Step) → EachStep (IsAnswered defaults) start past → ConfirmsSettled defaults start past
-  confirms_settled start past h before command told = confirmed defaults (session start past).first (session start past).past before command (here defaults start past h).lawful told
+  confirms_settled start past h before command reported = confirmed defaults (session start past).first (session start past).past before command (here defaults start past h).conforming reported
 
   pub starts_with_confirmed : (start : SimValue) (past : List Step) → EachStep (IsAnswered defaults) start past → EachStep (StartsWithConfirmed defaults) start past
   starts_with_confirmed start [] h = tt
   starts_with_confirmed start (step ∷ before) h = (
-    λ s earlier command told.
-        let settled = confirms_settled start before h.1 earlier command told in
+    λ s earlier command reported.
+        let settled = confirms_settled start before h.1 earlier command reported in
         (settled, λ restart. kept_settled defaults (session start before).first (session start before).past earlier command step.flash.image settled restart),
     starts_with_confirmed start before h.1,
   )

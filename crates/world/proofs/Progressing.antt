@@ -9,17 +9,17 @@ use Rattle.keymap_store.specs.declared.store.Work.{Work as WorkAnswer}
 use Rattle.keymap_store.specs.declared.store.Work.TheVariants.{Idle, Working, Settled, Failed}
 use Rattle.host.specs.Calls.{HostCall}
 use Rattle.keyboard.specs.Calls.{Call, SetUp, Out, In, Worked as KeyboardWorked, EachCall}
-use Rattle.keyboard.specs.Feature.{command_in}
-use Rattle.keyboard.specs.Lawful as keyboard
+use Rattle.keyboard.specs.Feature.{command_of_bytes}
+use Rattle.keyboard.specs.Conforming as keyboard
 use Rattle.keyboard.specs.Progress as session_specs
 use Rattle.keyboard.proofs.Progressing.{served as served_in_session}
 use Rattle.world.specs.declared.event.Event.{Event}
 use Rattle.world.specs.declared.event.Event.TheVariants.{Setup, OutPacket, InPacket, Work}
 use Rattle.world.specs.declared.event.Answer.{Answer}
 use Rattle.world.specs.declared.event.Answer.TheVariants.{Ack, Packet, Worked}
-use Rattle.world.specs.Kinds.{Step, kind_of, as_answer, ep_told, work_told}
+use Rattle.world.specs.Kinds.{Step, kind_of, as_answer, ep_reported, work_reported}
 use Rattle.world.specs.History.{Session, session_with, session, host_calls, flash_after, EachStep}
-use Rattle.world.specs.Lawful.{Answered, IsAnswered, OperatedAs}
+use Rattle.world.specs.Conforming.{Answered, IsAnswered, OperatedAs}
 use Rattle.world.specs.Progress.{IsReady, AreWorks, BringsCommand, AllWork, EndSettled, IsServed}
 use Rattle.world.proofs.Here.{by_endpoint, by_work, here}
 use Rattle.std.proofs.Common.{append_assoc, ◌<◌, Some}
@@ -52,15 +52,15 @@ empty = ep.Packet (record { items = [] })
 
 -- it does not fail, leaves nothing armed, and is answered what it came to
 record Quiet (answer : Answer) (new : SimValue) : Type 0 where
-  whole : work_told answer ≢ Failed
+  whole : work_reported answer ≢ Failed
   unarmed : new.armed ≡ None
-  told : (work : WorkAnswer) → work_told answer ≡ work → answer ≡ Worked work
+  reported : (work : WorkAnswer) → work_reported answer ≡ work → answer ≡ Worked work
 
 nothing_armed : (o : Option (List ℕ)) → o ≡ None → IsSome o → ⊥
 nothing_armed o n s = cc
 
 abbrev call_of : Step → Call
-call_of step = KeyboardWorked (work_told step.answer) step.flash.image
+call_of step = KeyboardWorked (work_reported step.answer) step.flash.image
 
 record AllQuiet (start : SimValue) (works base : List Step) : Type 0 where
   whole : session_specs.AreWhole (map call_of works)
@@ -92,10 +92,10 @@ in_accepts : (past : List Call) → accepts past (In empty) ≡ None
 unfolding accepts
 in_accepts past = refl
 
-accepted_data : (now : Session) (event : Event) (answer : Answer) (image : List ℕ) (a b c d e : ℕ) (command : Command) → event ≡ OutPacket (record { items = 3 ∷ a ∷ b ∷ c ∷ d ∷ e ∷ [] }) → ep_told answer ≡ ep.Ack
-    → command_in (a ∷ b ∷ c ∷ d ∷ e ∷ []) ≡ Ok command → (past : List Call) → now.past ≡ SetUp session_specs.set_feature ∷ past → accepts_by (kind_of event answer image) now.past ≡ Some command
-accepted_data now event answer image a b c d e command is told r past p =
-    rw (is, told, p) (accepts_data past a b c d e command r)
+accepted_data : (now : Session) (event : Event) (answer : Answer) (image : List ℕ) (a b c d e : ℕ) (command : Command) → event ≡ OutPacket (record { items = 3 ∷ a ∷ b ∷ c ∷ d ∷ e ∷ [] }) → ep_reported answer ≡ ep.Ack
+    → command_of_bytes (a ∷ b ∷ c ∷ d ∷ e ∷ []) ≡ Ok command → (past : List Call) → now.past ≡ SetUp session_specs.set_feature ∷ past → accepts_by (kind_of event answer image) now.past ≡ Some command
+accepted_data now event answer image a b c d e command is reported r past p =
+    rw (is, reported, p) (accepts_data past a b c d e command r)
 
 free_or_good : (kind : Slot) (word : ℕ) → kind ≡ Free → kind ≡ Good word → ⊥
 free_or_good kind word f g = cc
@@ -111,21 +111,21 @@ module _ (defaults : DefaultCodes) where
       (there.0, there.1.0)
 
   -- an answer to an OUT packet is the endpoint's, and leaves the flash
-  told_out : (now : Session) (heard : List HostCall) (old : SimValue) (items : List ℕ) (answer : Answer) (refused : Bool) (new : SimValue) → Answered defaults now heard old (OutPacket (record { items = items })) answer refused new
-      → (ep_told answer ≡ ep.Ack → answer ≡ Ack) × (new ≡ old)
-  told_out now heard old items answer refused new (by_ep, is, l, u) = (λ told. is ∙ ap as_answer (sym (by_endpoint answer by_ep is) ∙ told), u.0)
+  reported_out : (now : Session) (heard : List HostCall) (old : SimValue) (items : List ℕ) (answer : Answer) (refused : Bool) (new : SimValue) → Answered defaults now heard old (OutPacket (record { items = items })) answer refused new
+      → (ep_reported answer ≡ ep.Ack → answer ≡ Ack) × (new ≡ old)
+  reported_out now heard old items answer refused new (by_ep, is, l, u) = (λ reported. is ∙ ap as_answer (sym (by_endpoint answer by_ep is) ∙ reported), u.0)
 
   answered_out : (now : Session) (heard : List HostCall) (old : SimValue) (event : Event) (items : List ℕ) (answer : Answer) (refused : Bool) (new : SimValue) → event ≡ OutPacket (record { items = items })
-      → Answered defaults now heard old event answer refused new → (ep_told answer ≡ ep.Ack → answer ≡ Ack) × (new ≡ old)
+      → Answered defaults now heard old event answer refused new → (ep_reported answer ≡ ep.Ack → answer ≡ Ack) × (new ≡ old)
   answered_out now heard old event items answer refused new e a =
-      told_out now heard old items answer refused new (subst (λ (x : Event). Answered defaults now heard old x answer refused new) e a)
+      reported_out now heard old items answer refused new (subst (λ (x : Event). Answered defaults now heard old x answer refused new) e a)
 
-  told_in : (now : Session) (heard : List HostCall) (old : SimValue) (answer : Answer) (refused : Bool) (new : SimValue) → Answered defaults now heard old InPacket answer refused new → ep_told answer ≡ empty → answer ≡ Packet (record { items = [] })
-  told_in now heard old answer refused new (by_ep, is, l, f, m) told = is ∙ ap as_answer (sym (by_endpoint answer by_ep is) ∙ told)
+  reported_in : (now : Session) (heard : List HostCall) (old : SimValue) (answer : Answer) (refused : Bool) (new : SimValue) → Answered defaults now heard old InPacket answer refused new → ep_reported answer ≡ empty → answer ≡ Packet (record { items = [] })
+  reported_in now heard old answer refused new (by_ep, is, l, f, m) reported = is ∙ ap as_answer (sym (by_endpoint answer by_ep is) ∙ reported)
 
   answered_in : (now : Session) (heard : List HostCall) (old : SimValue) (event : Event) (answer : Answer) (refused : Bool) (new : SimValue) → event ≡ InPacket → Answered defaults now heard old event answer refused new
-      → ep_told answer ≡ empty → answer ≡ Packet (record { items = [] })
-  answered_in now heard old event answer refused new e a told = told_in now heard old answer refused new (subst (λ (x : Event). Answered defaults now heard old x answer refused new) e a) told
+      → ep_reported answer ≡ empty → answer ≡ Packet (record { items = [] })
+  answered_in now heard old event answer refused new e a reported = reported_in now heard old answer refused new (subst (λ (x : Event). Answered defaults now heard old x answer refused new) e a) reported
 
   -- ---- a step of the flash work on a flash of which nothing is armed
 
@@ -137,9 +137,9 @@ module _ (defaults : DefaultCodes) where
 
   worked_quiet : (now : Session) (heard : List HostCall) (old : SimValue) (answer : Answer) (refused : Bool) (new : SimValue) → old.armed ≡ None → Answered defaults now heard old Work answer refused new → Quiet answer new
   worked_quiet now heard old answer refused new u (work, is, w, r) =
-      let told = by_work answer work is in
+      let reported = by_work answer work is in
       let o = by_operated now old work new u w.operated in
-      record { whole = λ f. o.0 (sym told ∙ f); unarmed = o.1; told = λ other same. is ∙ ap Worked (sym told ∙ same) }
+      record { whole = λ f. o.0 (sym reported ∙ f); unarmed = o.1; reported = λ other same. is ∙ ap Worked (sym reported ∙ same) }
 
   step_quiet : (now : Session) (heard : List HostCall) (old : SimValue) (event : Event) (answer : Answer) (refused : Bool) (new : SimValue) → event ≡ Work → old.armed ≡ None → Answered defaults now heard old event answer refused new → Quiet answer new
   step_quiet now heard old event answer refused new e u a = worked_quiet now heard old answer refused new u (subst (λ (x : Event). Answered defaults now heard old x answer refused new) e a)
@@ -160,13 +160,13 @@ module _ (defaults : DefaultCodes) where
   all_work start [] base w u h a = tt
   all_work start (step ∷ works) base w u h a =
       let here = quiet_at start step (works ++ base) w.0 (all_quiet start works base w.1 u h.1).unarmed h.0 in
-      (here.told Working a.0, all_work start works base w.1 u h.1 a.1)
+      (here.reported Working a.0, all_work start works base w.1 u h.1 a.1)
 
   end_settled : (start : SimValue) (works base : List Step) → AreWorks works → (flash_after start base).armed ≡ None → EachStep (IsAnswered defaults) start (works ++ base) → session_specs.EndSettled (map call_of works) → EndSettled works
   end_settled start [] base w u h a = tt
   end_settled start (step ∷ works) base w u h a =
       let here = quiet_at start step (works ++ base) w.0 (all_quiet start works base w.1 u h.1).unarmed h.0 in
-      (here.told Settled a.0, all_work start works base w.1 u h.1 a.1)
+      (here.reported Settled a.0, all_work start works base w.1 u h.1 a.1)
 
   -- ---- the session
 
@@ -174,28 +174,28 @@ module _ (defaults : DefaultCodes) where
   later start [] ys h = h
   later start (step ∷ xs) ys h = later start xs ys h.1
 
-  pub served : (start : SimValue) (before works : List Step) (setup brought status : Step) (a b c d e : ℕ) (command : Command) → IsReady defaults start before → command_in (a ∷ b ∷ c ∷ d ∷ e ∷ []) ≡ Ok command
+  pub served : (start : SimValue) (before works : List Step) (setup brought status : Step) (a b c d e : ℕ) (command : Command) → IsReady defaults start before → command_of_bytes (a ∷ b ∷ c ∷ d ∷ e ∷ []) ≡ Ok command
       → BringsCommand defaults start before setup brought works status a b c d e command → EachStep (IsAnswered defaults) start (status ∷ works ++ brought ∷ setup ∷ before) → IsServed setup brought works status
   served start before works setup brought status a b c d e command ready r t h =
       let base : List Step = brought ∷ setup ∷ before in
       let now : Session = session start before in
       let packet : List ℕ = 3 ∷ a ∷ b ∷ c ∷ d ∷ e ∷ [] in
-      let lawful = later start works base h.1 in
-      let at_setup = answered_setup now (host_calls before) (flash_after start before) setup.event session_specs.set_feature setup.answer setup.refused setup.flash t.begins lawful.1.0 in
-      let at_data = answered_out (session start (setup ∷ before)) (host_calls (setup ∷ before)) setup.flash brought.event packet brought.answer brought.refused brought.flash t.brings lawful.0 in
+      let conforming = later start works base h.1 in
+      let at_setup = answered_setup now (host_calls before) (flash_after start before) setup.event session_specs.set_feature setup.answer setup.refused setup.flash t.begins conforming.1.0 in
+      let at_data = answered_out (session start (setup ∷ before)) (host_calls (setup ∷ before)) setup.flash brought.event packet brought.answer brought.refused brought.flash t.brings conforming.0 in
       let unarmed : brought.flash.armed ≡ None = ap (λ (f : SimValue). f.armed) (at_data.1 ∙ at_setup.1) ∙ ready.unarmed in
-      let base_is : session start base ≡ record { first = now.first; past = Out packet (ep_told brought.answer) ∷ SetUp session_specs.set_feature ∷ now.past } =
-      over_step (session start (setup ∷ before)) brought.event brought.answer brought.flash.image (Out packet (ep_told brought.answer)) (OutPacket (record { items = packet })) t.brings refl
-      ∙ ap (λ (s : Session). let more : Session = record { first = s.first; past = Out packet (ep_told brought.answer) ∷ s.past } in more)
+      let base_is : session start base ≡ record { first = now.first; past = Out packet (ep_reported brought.answer) ∷ SetUp session_specs.set_feature ∷ now.past } =
+      over_step (session start (setup ∷ before)) brought.event brought.answer brought.flash.image (Out packet (ep_reported brought.answer)) (OutPacket (record { items = packet })) t.brings refl
+      ∙ ap (λ (s : Session). let more : Session = record { first = s.first; past = Out packet (ep_reported brought.answer) ∷ s.past } in more)
       (over_step now setup.event setup.answer setup.flash.image (SetUp session_specs.set_feature) (Setup session_specs.set_feature) t.begins refl) in
       let all_is : session start (status ∷ works ++ base)
-      ≡ record { first = now.first; past = In (ep_told status.answer) ∷ map call_of works ++ Out packet (ep_told brought.answer) ∷ SetUp session_specs.set_feature ∷ now.past } =
-      over_step (session start (works ++ base)) status.event status.answer status.flash.image (In (ep_told status.answer)) InPacket t.asks refl
-      ∙ ap (λ (s : Session). let more : Session = record { first = s.first; past = In (ep_told status.answer) ∷ s.past } in more)
+      ≡ record { first = now.first; past = In (ep_reported status.answer) ∷ map call_of works ++ Out packet (ep_reported brought.answer) ∷ SetUp session_specs.set_feature ∷ now.past } =
+      over_step (session start (works ++ base)) status.event status.answer status.flash.image (In (ep_reported status.answer)) InPacket t.asks refl
+      ∙ ap (λ (s : Session). let more : Session = record { first = s.first; past = In (ep_reported status.answer) ∷ s.past } in more)
       (over_works start works base t.flash_work ∙ ap (λ (s : Session). let more : Session = record { first = s.first; past = map call_of works ++ s.past } in more) base_is) in
-      let calls = subst (λ (s : Session). EachCall (keyboard.IsAnswered defaults) s.first s.past) all_is (here defaults start (status ∷ works ++ base) h).lawful in
-      let as_many = length-map works call_of ∙ t.as_many ∙ ap (λ (i : List ℕ). session_specs.steps_for defaults i command) (sym (here defaults start before lawful.1.1).image) in
-      let s = served_in_session defaults now.first now.past (map call_of works) a b c d e (ep_told brought.answer) (ep_told status.answer) command ready.session r
+      let calls = subst (λ (s : Session). EachCall (keyboard.IsAnswered defaults) s.first s.past) all_is (here defaults start (status ∷ works ++ base) h).conforming in
+      let as_many = length-map works call_of ∙ t.as_many ∙ ap (λ (i : List ℕ). session_specs.steps_for defaults i command) (sym (here defaults start before conforming.1.1).image) in
+      let s = served_in_session defaults now.first now.past (map call_of works) a b c d e (ep_reported brought.answer) (ep_reported status.answer) command ready.session r
       (all_quiet start works base t.flash_work unarmed h.1).whole as_many calls in
       record {
         began = at_setup.0;
@@ -211,11 +211,11 @@ module _ (defaults : DefaultCodes) where
 
   work_writes_none : (now : Session) (event : Event) (answer : Answer) (image : List ℕ) (layer key : ℕ) → event ≡ Work → DoesNotWrite defaults layer key (accepts_by (kind_of event answer image) now.past)
   work_writes_none now event answer image layer key e =
-      rw e (none_written layer key (accepts now.past (KeyboardWorked (work_told answer) image)) (work_accepts now.past (work_told answer) image))
+      rw e (none_written layer key (accepts now.past (KeyboardWorked (work_reported answer) image)) (work_accepts now.past (work_reported answer) image))
 
-  in_writes_none : (now : Session) (event : Event) (answer : Answer) (image : List ℕ) (layer key : ℕ) → event ≡ InPacket → ep_told answer ≡ empty → DoesNotWrite defaults layer key (accepts_by (kind_of event answer image) now.past)
-  in_writes_none now event answer image layer key e told =
-      rw e (none_written layer key (accepts now.past (In (ep_told answer))) (ap (λ (x : EpAnswer). accepts now.past (In x)) told ∙ in_accepts now.past))
+  in_writes_none : (now : Session) (event : Event) (answer : Answer) (image : List ℕ) (layer key : ℕ) → event ≡ InPacket → ep_reported answer ≡ empty → DoesNotWrite defaults layer key (accepts_by (kind_of event answer image) now.past)
+  in_writes_none now event answer image layer key e reported =
+      rw e (none_written layer key (accepts now.past (In (ep_reported answer))) (ap (λ (x : EpAnswer). accepts now.past (In x)) reported ∙ in_accepts now.past))
 
   works_write_none : (start : SimValue) (works base : List Step) (layer key : ℕ) → AreWorks works → NoneAcceptedWrites defaults start works base layer key
   works_write_none start [] base layer key w = tt
@@ -234,7 +234,7 @@ module _ (defaults : DefaultCodes) where
       let there : Answered defaults now heard old (Entry layer key) answer refused new = subst (λ (x : Event). Answered defaults now heard old x answer refused new) e a in
       there.0 ∙ ap EntryIs k
 
-  pub shown : (start : SimValue) (before works after : List Step) (setup brought status look : Step) (a b c d e layer key code : ℕ) (command : Command) → IsReady defaults start before → command_in (a ∷ b ∷ c ∷ d ∷ e ∷ []) ≡ Ok command
+  pub shown : (start : SimValue) (before works after : List Step) (setup brought status look : Step) (a b c d e layer key code : ℕ) (command : Command) → IsReady defaults start before → command_of_bytes (a ∷ b ∷ c ∷ d ∷ e ∷ []) ≡ Ok command
       → BringsCommand defaults start before setup brought works status a b c d e command → layer < layers → key < keys → written defaults command layer key ≡ Some code
       → NoneAcceptedWrites defaults start after (status ∷ works ++ brought ∷ setup ∷ before) layer key → look.event ≡ Entry layer key
       → EachStep (IsAnswered defaults) start (look ∷ after ++ status ∷ works ++ brought ∷ setup ∷ before) → look.answer ≡ EntryIs code
@@ -242,13 +242,13 @@ module _ (defaults : DefaultCodes) where
       let base : List Step = brought ∷ setup ∷ before in
       let all : List Step = status ∷ works ++ base in
       let whole : List Step = after ++ status ∷ works ++ base in
-      let lawful = later start after all (subst (λ (xs : List Step). EachStep (IsAnswered defaults) start xs) (append_assoc after (status ∷ works) base) h.1) in
-      let s = served start before works setup brought status a b c d e command ready r t lawful in
+      let conforming = later start after all (subst (λ (xs : List Step). EachStep (IsAnswered defaults) start xs) (append_assoc after (status ∷ works) base) h.1) in
+      let s = served start before works setup brought status a b c d e command ready r t conforming in
       let past_is : (session start (setup ∷ before)).past ≡ SetUp session_specs.set_feature ∷ (session start before).past =
       ap (λ (x : Session). x.past) (over_step (session start before) setup.event setup.answer setup.flash.image (SetUp session_specs.set_feature) (Setup session_specs.set_feature) t.begins refl) in
-      let status_none = in_writes_none (session start (works ++ base)) status.event status.answer status.flash.image layer key t.asks (ap ep_told s.confirmed) in
+      let status_none = in_writes_none (session start (works ++ base)) status.event status.answer status.flash.image layer key t.asks (ap ep_reported s.confirmed) in
       let between_none : NoneAcceptedWrites defaults start (status ∷ works) base layer key = (status_none, works_write_none start works base layer key t.flash_work) in
-      let told : IsAcknowledged defaults start whole layer key code = record {
+      let reported : IsAcknowledged defaults start whole layer key code = record {
         in_layers = l;
         in_keys = k;
         before = setup ∷ before;
@@ -258,14 +258,14 @@ module _ (defaults : DefaultCodes) where
         after = after;
         history_is = refl;
         command = command;
-        accepted = accepted_data (session start (setup ∷ before)) brought.event brought.answer brought.flash.image a b c d e command t.brings (ap ep_told s.acknowledged) r (session start before).past past_is;
+        accepted = accepted_data (session start (setup ∷ before)) brought.event brought.answer brought.flash.image a b c d e command t.brings (ap ep_reported s.acknowledged) r (session start before).past past_is;
         writes = w;
         same_transfer = same_transfer works t.flash_work;
-        told = (t.asks, s.confirmed);
+        reported = (t.asks, s.confirmed);
         not_since = none_in_both start after (status ∷ works) base layer key none between_none;
       } in
       shown_entry (session start whole) (host_calls whole) (flash_after start whole) look.event look.answer look.refused look.flash layer key code looks
-      (acknowledged defaults start whole h.1 layer key code told) h.0
+      (acknowledged defaults start whole h.1 layer key code reported) h.0
 
   -- ---- a flash as it comes from the factory
 

@@ -1,9 +1,9 @@
--- A history in which each event is answered as it has to be keeps the promise.
+-- A history in which each event is answered as it has to be keeps the guarantee.
 use Rattle.std.proofs.Common.{List, [], ◌∷◌}
 use Rattle.flash_model.specs.Sim.{SimValue}
 use Rattle.world.specs.Kinds.{Step}
 use Rattle.world.specs.History.{EachStep, EachPoint}
-use Rattle.world.specs.Lawful.{IsAnswered}
+use Rattle.world.specs.Conforming.{IsAnswered}
 use Rattle.world.specs.Restart.{ConfirmsSettled, StartsChanged}
 use Rattle.world.specs.Acknowledged.{KeepsStored}
 use Rattle.world.specs.Readings.{KeepsServed, GathersServed}
@@ -29,7 +29,7 @@ module _ (defaults : DefaultCodes) where
   each_point P follows start (step ∷ before) h = (follows start (step ∷ before) h, each_point P follows start before h.1)
 
   keeps_stored : (start : SimValue) (history : List Step) → EachStep (IsAnswered defaults) start history → KeepsStored defaults start history
-  keeps_stored start history h = record { told = acknowledged defaults start history h; allowed = holds_allowed defaults start history h }
+  keeps_stored start history h = record { reported = acknowledged defaults start history h; allowed = holds_allowed defaults start history h }
 
   pub promise : (start : SimValue) (history : List Step) → EachStep (IsAnswered defaults) start history → Promise defaults start history
   promise start history h = record {

@@ -8,7 +8,7 @@ use Rattle.keymap_store.specs.declared.store.Work.{Work as WorkAnswer}
 use Rattle.host.specs.Calls.{HostCall}
 use Rattle.keyboard.specs.Calls.{Call, Worked as KeyboardWorked, keymap, EachCall}
 use Rattle.keyboard.specs.Commands.{accepted, working, settled_of}
-use Rattle.keyboard.specs.Lawful.{WorkedOn, IsAnswered as IsCallAnswered}
+use Rattle.keyboard.specs.Conforming.{WorkedOn, IsAnswered as IsCallAnswered}
 use Rattle.keyboard.specs.Restart.{RestartsLegally}
 use Rattle.keyboard.proofs.Restarting.{restarts_legally}
 use Rattle.keyboard.proofs.Sessions.{orderly}
@@ -19,7 +19,7 @@ use Rattle.world.specs.declared.event.Answer.{Answer}
 use Rattle.world.specs.declared.event.Answer.TheVariants.{EntryIs}
 use Rattle.world.specs.Kinds.{Step, starts, kind_of}
 use Rattle.world.specs.History.{Session, session, host_calls, flash_after, EachStep}
-use Rattle.world.specs.Lawful.{Answered, IsAnswered}
+use Rattle.world.specs.Conforming.{Answered, IsAnswered}
 use Rattle.world.specs.Restart.{StartsLegally, ShowsSettled}
 use Rattle.world.proofs.Here.{Here, here}
 
@@ -40,9 +40,9 @@ module _ (defaults : DefaultCodes) where
   legal_by now heard old Work answer refused new h a e = cc
   legal_by now heard old (WorkFault mask) answer refused new h a e = cc
   legal_by now heard old Cut answer refused new h a e =
-      subst (λ (x : List ℕ). RestartsLegally defaults now.first now.past x) (h.image ∙ sym (ap (λ (f : SimValue). f.image) a.1.0)) (restarts_legally defaults now.first now.past h.lawful)
+      subst (λ (x : List ℕ). RestartsLegally defaults now.first now.past x) (h.image ∙ sym (ap (λ (f : SimValue). f.image) a.1.0)) (restarts_legally defaults now.first now.past h.conforming)
   legal_by now heard old (CutInWork mask) answer refused new h (work, e, w, r) s =
-      by_step now.first now.past (working defaults now.first now.past) work new.image h.lawful w.lawful w.lawful
+      by_step now.first now.past (working defaults now.first now.past) work new.image h.conforming w.conforming w.conforming
   legal_by now heard old BusReset answer refused new h a e = cc
   legal_by now heard old (Entry layer key) answer refused new h a e = cc
   legal_by now heard old (SlotAt page slot) answer refused new h a e = cc
@@ -62,7 +62,7 @@ module _ (defaults : DefaultCodes) where
       let shown = subst (λ (x : Event). Answered defaults now heard old x answer refused new) e a in
       shown.0
       ∙ ap (λ (x : List ℕ). EntryIs (keymap defaults x layer key)) (sym h.image)
-      ∙ ap (λ (x : ℕ). EntryIs x) ((orderly defaults now.first now.past h.lawful).kept layer key l k)
+      ∙ ap (λ (x : ℕ). EntryIs x) ((orderly defaults now.first now.past h.conforming).kept layer key l k)
 
   pub shows_settled : (start : SimValue) (past : List Step) → EachStep (IsAnswered defaults) start past → EachStep (ShowsSettled defaults) start past
   shows_settled start [] h = tt

@@ -5,13 +5,13 @@ use Rattle.std.proofs.lemmas.Grind.{reverse_onto}
 use Rattle.flash_model.specs.Sim.{SimValue}
 use Rattle.world.specs.declared.event.Event.{Event}
 use Rattle.world.specs.declared.event.Answer.{Answer}
-use Rattle.world.specs.declared.event.Told.{Told}
+use Rattle.world.specs.declared.event.Reported.{Reported}
 use Rattle.world.specs.Kinds.{Step}
-use Rattle.world.specs.Lawful.{IsLawful}
-use Rattle.world.specs.ties.Value.{WorldValue}
-use Rattle.world.specs.Stands.{NoneRefused, EndsAfter, no_room, host_refused, LongerHistory}
-use Rattle.world.specs.ties.Stands.{StandsFor}
-use Rattle.world.specs.ties.Private.{Takes, Went}
+use Rattle.world.specs.Conforming.{IsConforming}
+use Rattle.world.specs.representation.Value.{WorldValue}
+use Rattle.world.specs.Relation.{NoneRefused, EndsAfter, no_room, host_refused, LongerHistory}
+use Rattle.world.specs.representation.Relation.{Refines}
+use Rattle.world.specs.representation.Private.{Takes, Went}
 use Rattle.layers.specs.Codes.{DefaultCodes}
 
 pub not_ok : {A E : Type 0} (r : Result A E) → is_err r ≡ true → is_ok r ≡ false
@@ -26,19 +26,19 @@ module _ (defaults : DefaultCodes) where
   pub record Going (start : SimValue) (past : List Step) (n : ℕ) (world : WorldValue) (events : List Event) (before after : List Answer) : Type 0 where
     pub steps : List Step
     pub count : length steps ≡ n
-    pub stands : StandsFor defaults start (steps ++ past) world
+    pub refines : Refines defaults start (steps ++ past) world
     pub events_are : map (λ (s : Step). s.event) (reverse steps) ≡ take n events
     pub answers_are : after ≡ before ++ map (λ (s : Step). s.answer) (reverse steps)
     pub none : NoneRefused steps
 
-  pub going_none : (start : SimValue) (past : List Step) (world : WorldValue) (events : List Event) (before : List Answer) → StandsFor defaults start past world → Going start past 0 world events before before
-  going_none start past world events before s = record { steps = []; count = refl; stands = s; events_are = refl; answers_are = sym (append-nil before); none = tt }
+  pub going_none : (start : SimValue) (past : List Step) (world : WorldValue) (events : List Event) (before : List Answer) → Refines defaults start past world → Going start past 0 world events before before
+  going_none start past world events before s = record { steps = []; count = refl; refines = s; events_are = refl; answers_are = sym (append-nil before); none = tt }
 
   ended : (start : SimValue) (past : List Step) (n : ℕ) (world : WorldValue) (events : List Event) (room : ℕ) (before after : List Answer) (ok : Bool) (g : Going start past n world events before after) → EndsAfter room ok g.steps events
       → Went defaults start past world events room before after ok
   ended start past n world events room before after ok g e = record {
     steps = g.steps;
-    stands = g.stands;
+    refines = g.refines;
     events_are = rw g.count g.events_are;
     answers_are = g.answers_are;
     ends = e;
@@ -58,63 +58,63 @@ module _ (defaults : DefaultCodes) where
   -- one event more
   record OneMore (start : SimValue) (past : List Step) (n : ℕ) (world : WorldValue) (events : List Event) (before after : List Answer) (steps : List Step) : Type 0 where
     count : length steps ≡ n
-    stands : StandsFor defaults start (steps ++ past) world
+    refines : Refines defaults start (steps ++ past) world
     events_are : map (λ (s : Step). s.event) (reverse steps) ≡ take n events
     answers_are : after ≡ before ++ map (λ (s : Step). s.answer) (reverse steps)
 
-  one_more : (start : SimValue) (past : List Step) (n : ℕ) (world next : WorldValue) (events : List Event) (before after : List Answer) (event : Event) (told : Told)
+  one_more : (start : SimValue) (past : List Step) (n : ℕ) (world next : WorldValue) (events : List Event) (before after : List Answer) (event : Event) (reported : Reported)
       → n < length events → event ≡ get_or events n event
-      → (g : Going start past n world events before after) → Takes defaults event world told next
-      → OneMore start past (n + 1) next events before (after ++ told.answer ∷ []) ((record { event = event; answer = told.answer; flash = next.flash; refused = told.refused }) ∷ g.steps)
-  one_more start past n world next events before after event told l e g step =
-      let new : Step = record { event = event; answer = told.answer; flash = next.flash; refused = told.refused } in
+      → (g : Going start past n world events before after) → Takes defaults event world reported next
+      → OneMore start past (n + 1) next events before (after ++ reported.answer ∷ []) ((record { event = event; answer = reported.answer; flash = next.flash; refused = reported.refused }) ∷ g.steps)
+  one_more start past n world next events before after event reported l e g step =
+      let new : Step = record { event = event; answer = reported.answer; flash = next.flash; refused = reported.refused } in
       let more : take (n + 1) events ≡ take n events ++ event ∷ [] = take_more events n event l ∙ ap (λ (x : Event). take n events ++ x ∷ []) (sym e) in
       record {
         count = omega (arith, g.count);
-        stands = step start (g.steps ++ past) g.stands;
+        refines = step start (g.steps ++ past) g.refines;
         events_are = mapped_more (λ (s : Step). s.event) new g.steps ∙ ap (λ (xs : List Event). xs ++ event ∷ []) g.events_are ∙ sym more;
-        answers_are = ap (λ xs. xs ++ told.answer ∷ []) g.answers_are ∙ append_assoc before (map (λ (s : Step). s.answer) (reverse g.steps)) (told.answer ∷ []) ∙ ap (λ xs. before ++ xs) (sym (mapped_more (λ (s : Step). s.answer) new g.steps));
+        answers_are = ap (λ xs. xs ++ reported.answer ∷ []) g.answers_are ∙ append_assoc before (map (λ (s : Step). s.answer) (reverse g.steps)) (reported.answer ∷ []) ∙ ap (λ xs. before ++ xs) (sym (mapped_more (λ (s : Step). s.answer) new g.steps));
       }
 
-  pub going_more : (start : SimValue) (past : List Step) (n : ℕ) (world next : WorldValue) (events : List Event) (before after : List Answer) (event : Event) (told : Told)
-      → n < length events → event ≡ get_or events n event → told.refused ≡ false
-      → Going start past n world events before after → Takes defaults event world told next → Going start past (n + 1) next events before (after ++ told.answer ∷ [])
-  going_more start past n world next events before after event told l e r g step =
-      let more = one_more start past n world next events before after event told l e g step in
+  pub going_more : (start : SimValue) (past : List Step) (n : ℕ) (world next : WorldValue) (events : List Event) (before after : List Answer) (event : Event) (reported : Reported)
+      → n < length events → event ≡ get_or events n event → reported.refused ≡ false
+      → Going start past n world events before after → Takes defaults event world reported next → Going start past (n + 1) next events before (after ++ reported.answer ∷ [])
+  going_more start past n world next events before after event reported l e r g step =
+      let more = one_more start past n world next events before after event reported l e g step in
       record {
-        steps = (record { event = event; answer = told.answer; flash = next.flash; refused = told.refused }) ∷ g.steps;
+        steps = (record { event = event; answer = reported.answer; flash = next.flash; refused = reported.refused }) ∷ g.steps;
         count = more.count;
-        stands = more.stands;
+        refines = more.refines;
         events_are = more.events_are;
         answers_are = more.answers_are;
         none = (r, g.none);
       }
 
   -- in the last one the host was refused memory
-  pub went_refused : (start : SimValue) (past : List Step) (n : ℕ) (world next : WorldValue) (events : List Event) (room : ℕ) (before after : List Answer) (event : Event) (told : Told)
-      → n < length events → event ≡ get_or events n event → told.refused ≡ true
-      → Going start past n world events before after → Takes defaults event world told next → Went defaults start past next events room before (after ++ told.answer ∷ []) false
-  went_refused start past n world next events room before after event told l e r g step =
-      let new : Step = record { event = event; answer = told.answer; flash = next.flash; refused = told.refused } in
-      let more = one_more start past n world next events before after event told l e g step in
+  pub went_refused : (start : SimValue) (past : List Step) (n : ℕ) (world next : WorldValue) (events : List Event) (room : ℕ) (before after : List Answer) (event : Event) (reported : Reported)
+      → n < length events → event ≡ get_or events n event → reported.refused ≡ true
+      → Going start past n world events before after → Takes defaults event world reported next → Went defaults start past next events room before (after ++ reported.answer ∷ []) false
+  went_refused start past n world next events room before after event reported l e r g step =
+      let new : Step = record { event = event; answer = reported.answer; flash = next.flash; refused = reported.refused } in
+      let more = one_more start past n world next events before after event reported l e g step in
       record {
         steps = new ∷ g.steps;
-        stands = more.stands;
+        refines = more.refines;
         events_are = more.events_are ∙ ap (λ (k : ℕ). take k events) (sym more.count);
         answers_are = more.answers_are;
         ends = host_refused new g.steps refl r g.none;
       }
 
   -- so a run makes a longer history, of which holds what follows from the answers
-  pub runs_longer : (P : SimValue → List Step → Type 0) → ((start : SimValue) (history : List Step) → IsLawful defaults start history → P start history)
+  pub runs_longer : (P : SimValue → List Step → Type 0) → ((start : SimValue) (history : List Step) → IsConforming defaults start history → P start history)
       → (start : SimValue) (past : List Step) (world : WorldValue) (events : List Event) (room : ℕ) (before after : List Answer) (ok : Bool) → Went defaults start past world events room before after ok
       → LongerHistory defaults P start past world events room before after ok
   runs_longer P follows start past world events room before after ok g = record {
     steps = g.steps;
-    stands = g.stands;
-    flash_is = g.stands.flash;
+    refines = g.refines;
+    flash_is = g.refines.flash;
     events_are = g.events_are;
     answers_are = g.answers_are;
     ends = g.ends;
-    holds = follows start (g.steps ++ past) g.stands.answered;
+    holds = follows start (g.steps ++ past) g.refines.answered;
   }

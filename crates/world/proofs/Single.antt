@@ -1,4 +1,4 @@
--- A lawful history is given by its start, its events and where memory was refused.
+-- A conforming history is given by its start, its events and where memory was refused.
 use Rattle.std.proofs.Common.{◌≡◌, ◌∙◌, ℕ, Bool, Option, None, Some, IsSome, List, [], ◌∷◌, map, refl, sym, ap, subst}
 use Rattle.flash_model.specs.FlashOperation.{FlashOperation, programs, erases}
 use Rattle.flash_model.specs.Operated.{Outcome, IsOperated}
@@ -28,7 +28,7 @@ use Rattle.keymap_store.specs.declared.store.Work.TheVariants.{Idle, Working, Se
 use Rattle.keyboard.specs.Calls.{image_after as call_image}
 use Rattle.keyboard.specs.Commands.{working}
 use Rattle.keyboard.specs.Endpoint.{stage_after}
-use Rattle.keyboard.specs.Lawful.{WorkedOn}
+use Rattle.keyboard.specs.Conforming.{WorkedOn}
 use Rattle.keyboard.specs.Operated.{Works}
 use Rattle.keyboard.proofs.Single.{to_one, by_where, out_once, whole_program, whole_erase, same_operation, works_once}
 use Rattle.world.specs.declared.event.Event.{Event}
@@ -37,7 +37,7 @@ use Rattle.world.specs.declared.event.Answer.{Answer}
 use Rattle.world.specs.declared.event.Answer.TheVariants.{Worked}
 use Rattle.world.specs.Kinds.{Step, as_answer}
 use Rattle.world.specs.History.{Session, session, host_calls, flash_after}
-use Rattle.world.specs.Lawful.{Answered, IsAnswered, IsLawful, IsSent, OperatedAs, SlotAnswer, WorksIn, is_no_memory}
+use Rattle.world.specs.Conforming.{Answered, IsAnswered, IsConforming, IsSent, OperatedAs, SlotAnswer, WorksIn, is_no_memory}
 use Rattle.world.specs.Order.{IsNextOperation}
 use Rattle.world.proofs.Ordering.{worked}
 
@@ -118,8 +118,8 @@ record SameStep (a b : Answer) (new other : SimValue) : Type 0 where
   answer : a ≡ b
   flash : new ≡ other
 
-told : (a b : Answer) (x y : WorkAnswer) (new other : SimValue) → a ≡ Worked x → b ≡ Worked y → SameEnd x y new other → SameStep a b new other
-told a b x y new other e f s = record { answer = e ∙ ap Worked s.answer ∙ sym f; flash = s.flash }
+reported : (a b : Answer) (x y : WorkAnswer) (new other : SimValue) → a ≡ Worked x → b ≡ Worked y → SameEnd x y new other → SameStep a b new other
+reported a b x y new other e f s = record { answer = e ∙ ap Worked s.answer ∙ sym f; flash = s.flash }
 
 same_step : (a b : Step) → a.event ≡ b.event → a.answer ≡ b.answer → a.flash ≡ b.flash → a.refused ≡ b.refused → a ≡ b
 same_step a b e x f r =
@@ -146,16 +146,16 @@ module _ (defaults : DefaultCodes) where
 
   end_by : (now : Session) (w : Option Command) (old armed : SimValue) (a b : WorkAnswer) (new other : SimValue) → working defaults now.first now.past ≡ w → WorksIn defaults now old armed a new → WorksIn defaults now old armed b other → SameEnd a b new other
   end_by now None old armed a b new other w x y =
-      let one : WorkedOn defaults now.first now.past None a new.image = subst (λ (o : Option Command). WorkedOn defaults now.first now.past o a new.image) w x.lawful in
-      let two : WorkedOn defaults now.first now.past None b other.image = subst (λ (o : Option Command). WorkedOn defaults now.first now.past o b other.image) w y.lawful in
+      let one : WorkedOn defaults now.first now.past None a new.image = subst (λ (o : Option Command). WorkedOn defaults now.first now.past o a new.image) w x.conforming in
+      let two : WorkedOn defaults now.first now.past None b other.image = subst (λ (o : Option Command). WorkedOn defaults now.first now.past o b other.image) w y.conforming in
       record {
         answer = to_one one.0 two.0;
         flash = to_one (idle_end now old armed a new one.0 x.operated) (idle_end now old armed b other two.0 y.operated);
       }
   end_by now (Some command) old armed a b new other w x y =
-      let flash : new ≡ other = next_once now command armed (Worked a) (Worked b) new other (worked defaults now command old armed armed a Work (Worked a) new w (λ told. refl) refl x) (worked defaults now command old armed armed b Work (Worked b) other w (λ told. refl) refl y) in
-      let one : WorkedOn defaults now.first now.past (Some command) a new.image = subst (λ (o : Option Command). WorkedOn defaults now.first now.past o a new.image) w x.lawful in
-      let two : WorkedOn defaults now.first now.past (Some command) b other.image = subst (λ (o : Option Command). WorkedOn defaults now.first now.past o b other.image) w y.lawful in
+      let flash : new ≡ other = next_once now command armed (Worked a) (Worked b) new other (worked defaults now command old armed armed a Work (Worked a) new w (λ reported. refl) refl x) (worked defaults now command old armed armed b Work (Worked b) other w (λ reported. refl) refl y) in
+      let one : WorkedOn defaults now.first now.past (Some command) a new.image = subst (λ (o : Option Command). WorkedOn defaults now.first now.past o a new.image) w x.conforming in
+      let two : WorkedOn defaults now.first now.past (Some command) b other.image = subst (λ (o : Option Command). WorkedOn defaults now.first now.past o b other.image) w y.conforming in
       record {
         answer = works_once defaults now.first now.past command (call_image now.first now.past) other.image a b (subst (λ (f : SimValue). Works defaults now.first now.past command (call_image now.first now.past) a f.image) flash one) two;
         flash = flash;
@@ -175,8 +175,8 @@ module _ (defaults : DefaultCodes) where
       record { answer = x ∙ ap as_answer same ∙ sym y; flash = to_one u.0 v.0 }
   answered_once now heard old InPacket a b refused new other (one, x, l, u, r) (two, y, m, v, s) = record { answer = x ∙ ap as_answer (to_one l m) ∙ sym y; flash = to_one u v }
   answered_once now heard old Poll a b refused new other (one, l, u, x) (two, m, v, y) = record { answer = sent_once _ heard one two a b refused (to_one l m) x y; flash = to_one u v }
-  answered_once now heard old Work a b refused new other (one, x, w, r) (two, y, v, s) = told a b one two new other x y (ends_once now old _ one two new other w v)
-  answered_once now heard old (WorkFault mask) a b refused new other (one, x, w, r) (two, y, v, s) = told a b one two new other x y (ends_once now old _ one two new other w v)
+  answered_once now heard old Work a b refused new other (one, x, w, r) (two, y, v, s) = reported a b one two new other x y (ends_once now old _ one two new other w v)
+  answered_once now heard old (WorkFault mask) a b refused new other (one, x, w, r) (two, y, v, s) = reported a b one two new other x y (ends_once now old _ one two new other w v)
   answered_once now heard old Cut a b refused new other (x, u) (y, v) = record { answer = to_one x y; flash = to_one u.0 v.0 }
   answered_once now heard old (CutInWork mask) a b refused new other (one, x, w, r) (two, y, v, s) = record { answer = to_one x y; flash = (ends_once now old _ one two new other w v).flash }
   answered_once now heard old BusReset a b refused new other (x, u) (y, v) = record { answer = to_one x y; flash = to_one u.0 v.0 }
@@ -193,7 +193,7 @@ module _ (defaults : DefaultCodes) where
       let s : SameStep a.answer b.answer a.flash b.flash = answered_once now (host_calls before) (flash_after start before) b.event a.answer b.answer b.refused a.flash b.flash as_b y in
       same_step a b e s.answer s.flash r
 
-  pub one_history : (start : SimValue) (a b : List Step) → IsLawful defaults start a → IsLawful defaults start b → map (λ (s : Step). s.event) a ≡ map (λ (s : Step). s.event) b → map (λ (s : Step). s.refused) a ≡ map (λ (s : Step). s.refused) b → a ≡ b
+  pub one_history : (start : SimValue) (a b : List Step) → IsConforming defaults start a → IsConforming defaults start b → map (λ (s : Step). s.event) a ≡ map (λ (s : Step). s.event) b → map (λ (s : Step). s.refused) a ≡ map (λ (s : Step). s.refused) b → a ≡ b
   one_history start [] [] x y e r = refl
   one_history start [] (step ∷ before) x y e r = cc
   one_history start (step ∷ before) [] x y e r = cc

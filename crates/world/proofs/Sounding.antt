@@ -9,13 +9,13 @@ use Rattle.keymap_store.specs.declared.store.Work.TheVariants.{Idle, Working, Se
 use Rattle.host.specs.Calls.{HostCall}
 use Rattle.keyboard.specs.Calls.{image_after}
 use Rattle.keyboard.specs.Commands.{working}
-use Rattle.keyboard.specs.Lawful.{WorkedOn}
+use Rattle.keyboard.specs.Conforming.{WorkedOn}
 use Rattle.world.specs.declared.event.Event.{Event}
 use Rattle.world.specs.declared.event.Event.TheVariants.{Scan, Setup, OutPacket, InPacket, Poll, Work, WorkFault, Cut, CutInWork, BusReset, Entry, SlotAt, Leds}
 use Rattle.world.specs.declared.event.Answer.{Answer}
 use Rattle.world.specs.Kinds.{Step}
 use Rattle.world.specs.History.{Session, session, host_calls, flash_after, EachStep}
-use Rattle.world.specs.Lawful.{Answered, IsAnswered, OperatedAs, WorksIn}
+use Rattle.world.specs.Conforming.{Answered, IsAnswered, OperatedAs, WorksIn}
 use Rattle.world.specs.Sound.{KeepsSound}
 use Rattle.world.proofs.Here.{Here, here}
 
@@ -45,7 +45,7 @@ module _ (defaults : DefaultCodes) where
       stays_sound (subst IsUsable i on.usable) on.sound
 
   worked_in : (now : Session) (old armed : SimValue) (work : WorkAnswer) (new : SimValue) → Here defaults now old → WorksIn defaults now old armed work new → Touches old new
-  worked_in now old armed work new h w = worked now (working defaults now.first now.past) old armed work new h.image w.lawful w.operated
+  worked_in now old armed work new h w = worked now (working defaults now.first now.past) old armed work new h.image w.conforming w.operated
 
   touches : (now : Session) (heard : List HostCall) (old : SimValue) (event : Event) (answer : Answer) (refused : Bool) (new : SimValue) → Here defaults now old
       → Answered defaults now heard old event answer refused new → Touches old new

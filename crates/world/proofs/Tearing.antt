@@ -12,7 +12,7 @@ use Rattle.keymap_store.specs.declared.store.Work.{Work as WorkAnswer}
 use Rattle.host.specs.Calls.{HostCall}
 use Rattle.keyboard.specs.Commands.{working}
 use Rattle.keyboard.specs.Feature.{Where, yes, no}
-use Rattle.keyboard.specs.Lawful.{WorkedOn}
+use Rattle.keyboard.specs.Conforming.{WorkedOn}
 use Rattle.keyboard.specs.Single.{MayBeTorn}
 use Rattle.world.specs.declared.event.Event.{Event}
 use Rattle.world.specs.declared.event.Event.TheVariants.{Scan, Setup, OutPacket, InPacket, Poll, Work, WorkFault, Cut, CutInWork, BusReset, Entry, SlotAt, Leds}
@@ -21,7 +21,7 @@ use Rattle.world.specs.declared.event.Answer.TheVariants.{Worked}
 use Rattle.world.specs.Flash.{armed_by}
 use Rattle.world.specs.Kinds.{Step}
 use Rattle.world.specs.History.{Session, session, host_calls, flash_after, EachStep}
-use Rattle.world.specs.Lawful.{Answered, IsLawful, WorksIn}
+use Rattle.world.specs.Conforming.{Answered, IsConforming, WorksIn}
 use Rattle.world.specs.Order.{IsNextOperation}
 use Rattle.world.specs.Torn.{IsTorn, LeavesTorn}
 use Rattle.world.proofs.Here.{Here, here}
@@ -49,10 +49,10 @@ module _ (defaults : DefaultCodes) where
   torn_by : (now : Session) (w : Option Command) (old : SimValue) (mask : List ℕ) (work : WorkAnswer) (new : SimValue) → working defaults now.first now.past ≡ w → Here defaults now old → WorksIn defaults now old (armed_by mask old) work new
       → Where (IsSome w) (MayBeTorn defaults now.first now.past new.image) (new.image ≡ old.image)
   torn_by now None old mask work new w h on =
-      let idle : WorkedOn defaults now.first now.past None work new.image = subst (λ (o : Option Command). WorkedOn defaults now.first now.past o work new.image) w on.lawful in
+      let idle : WorkedOn defaults now.first now.past None work new.image = subst (λ (o : Option Command). WorkedOn defaults now.first now.past o work new.image) w on.conforming in
       no none_works (ap (λ (x : SimValue). x.image) (idle_end defaults now old (armed_by mask old) work new idle.0 on.operated))
   torn_by now (Some command) old mask work new w h on =
-      yes refl (next_torn now command old mask Work (Worked work) new w h (worked defaults now command old (armed_by mask old) (armed_by mask old) work Work (Worked work) new w (λ told. refl) refl on))
+      yes refl (next_torn now command old mask Work (Worked work) new w h (worked defaults now command old (armed_by mask old) (armed_by mask old) work Work (Worked work) new w (λ reported. refl) refl on))
 
   torn : (now : Session) (heard : List HostCall) (old : SimValue) (event : Event) (answer : Answer) (refused : Bool) (new : SimValue) → Here defaults now old → Answered defaults now heard old event answer refused new → IsTorn event
       → Where (IsSome (working defaults now.first now.past)) (MayBeTorn defaults now.first now.past new.image) (new.image ≡ old.image)
@@ -70,7 +70,7 @@ module _ (defaults : DefaultCodes) where
   torn now heard old (SlotAt page slot) answer refused new h a t = absurd t
   torn now heard old Leds answer refused new h a t = absurd t
 
-  pub leaves_torn : (start : SimValue) (history : List Step) → IsLawful defaults start history → EachStep (LeavesTorn defaults) start history
+  pub leaves_torn : (start : SimValue) (history : List Step) → IsConforming defaults start history → EachStep (LeavesTorn defaults) start history
   leaves_torn start [] h = tt
   leaves_torn start (step ∷ before) h = (
     torn (session start before) (host_calls before) (flash_after start before) step.event step.answer step.refused step.flash (here defaults start before h.1) h.0,

@@ -12,17 +12,17 @@ use Rattle.keyboard.specs.Acknowledged as keyboard
 use Rattle.keyboard.specs.Calls.{Call, Scanned, SetUp, Out, In, Polled, Worked as KeyboardWorked, BusReset as KeyboardReset, image_after, keymap, EachCall}
 use Rattle.keyboard.specs.Commands.{Accepted, accepts, accepted, accepted_before, accepted_with, if_settled, settled_of}
 use Rattle.keyboard.specs.Fate.{Fate, works, settled, failed}
-use Rattle.keyboard.specs.Lawful.{IsAnswered as IsCallAnswered}
+use Rattle.keyboard.specs.Conforming.{IsAnswered as IsCallAnswered}
 use Rattle.keyboard.proofs.Sessions.{orderly}
-use Rattle.keyboard.proofs.Telling.{acknowledged as told_in_session}
+use Rattle.keyboard.proofs.Telling.{acknowledged as reported_in_session}
 use Rattle.world.specs.declared.event.Event.{Event}
 use Rattle.world.specs.declared.event.Event.TheVariants.{Scan, Setup, OutPacket, InPacket, Poll, Work, WorkFault, Cut, CutInWork, BusReset, Entry, SlotAt, Leds}
 use Rattle.world.specs.declared.event.Answer.{Answer}
 use Rattle.world.specs.declared.event.Answer.TheVariants.{Packet}
 use Rattle.world.specs.Acknowledged.{accepts_by, accepts_here, GoesOn, SameTransfer, NoneAcceptedWrites, KeepsAcknowledged}
-use Rattle.world.specs.Kinds.{Step, Kind, starts, calls, looks, kind, kind_of, ep_told, bytes_told, work_told}
+use Rattle.world.specs.Kinds.{Step, Kind, starts, calls, looks, kind, kind_of, ep_reported, bytes_reported, work_reported}
 use Rattle.world.specs.History.{Session, session_with, session, host_calls, flash_after, EachStep}
-use Rattle.world.specs.Lawful.{Answered, IsAnswered}
+use Rattle.world.specs.Conforming.{Answered, IsAnswered}
 use Rattle.world.proofs.Here.{Here, here}
 
 same_more : (call : Call) (between : List Call) → GoesOn (calls call) → keyboard.SameTransfer between → keyboard.SameTransfer (call ∷ between)
@@ -45,8 +45,8 @@ brings before starts image command e = cc
 brings before looks image command e = cc
 brings before (calls call) image command e = record { packet = call; past_is = refl; accepted = e }
 
-kind_told : (status : Step) → (status.event ≡ InPacket) × (status.answer ≡ Packet (record { items = [] })) → kind status ≡ calls (In (EpPacket (record { items = [] })))
-kind_told status (e, a) = ap (λ (x : Event). kind_of x status.answer status.flash.image) e ∙ ap (λ (x : Answer). kind_of InPacket x status.flash.image) a
+kind_reported : (status : Step) → (status.event ≡ InPacket) × (status.answer ≡ Packet (record { items = [] })) → kind status ≡ calls (In (EpPacket (record { items = [] })))
+kind_reported status (e, a) = ap (λ (x : Event). kind_of x status.answer status.flash.image) e ∙ ap (λ (x : Answer). kind_of InPacket x status.flash.image) a
 
 module _ (defaults : DefaultCodes) where
   -- none of a session's commands writes the entry
@@ -97,7 +97,7 @@ module _ (defaults : DefaultCodes) where
 
   stored : (now : Session) (layer key code : ℕ) → layer < layers → key < keys → EachCall (IsCallAnswered defaults) now.first now.past → Knows now layer key code
       → keymap defaults (image_after now.first now.past) layer key ≡ code
-  stored now layer key code l k h (in_session a) = told_in_session defaults now.first now.past h layer key code a
+  stored now layer key code l k h (in_session a) = reported_in_session defaults now.first now.past h layer key code a
   stored now layer key code l k h (from_start e n) =
       (orderly defaults now.first now.past h).kept layer key l k ∙ left_code (accepted defaults now.first now.past) (keymap defaults now.first) layer key code (all_left now.first now.past layer key n) e
 
@@ -146,16 +146,16 @@ module _ (defaults : DefaultCodes) where
       → Knows (session_with (kind_of event answer new.image) new.image now) layer key code
   knows_more now heard old (Scan scan) answer refused new layer key code l k h a n s = knows_call now.first now.past (Scanned scan) layer key code n s
   knows_more now heard old (Setup bytes) answer refused new layer key code l k h a n s = knows_call now.first now.past (SetUp bytes) layer key code n s
-  knows_more now heard old (OutPacket packet) answer refused new layer key code l k h a n s = knows_call now.first now.past (Out packet.items (ep_told answer)) layer key code n s
-  knows_more now heard old InPacket answer refused new layer key code l k h a n s = knows_call now.first now.past (In (ep_told answer)) layer key code n s
-  knows_more now heard old Poll answer refused new layer key code l k h a n s = knows_call now.first now.past (Polled (bytes_told answer)) layer key code n s
-  knows_more now heard old Work answer refused new layer key code l k h a n s = knows_call now.first now.past (KeyboardWorked (work_told answer) new.image) layer key code n s
-  knows_more now heard old (WorkFault mask) answer refused new layer key code l k h a n s = knows_call now.first now.past (KeyboardWorked (work_told answer) new.image) layer key code n s
+  knows_more now heard old (OutPacket packet) answer refused new layer key code l k h a n s = knows_call now.first now.past (Out packet.items (ep_reported answer)) layer key code n s
+  knows_more now heard old InPacket answer refused new layer key code l k h a n s = knows_call now.first now.past (In (ep_reported answer)) layer key code n s
+  knows_more now heard old Poll answer refused new layer key code l k h a n s = knows_call now.first now.past (Polled (bytes_reported answer)) layer key code n s
+  knows_more now heard old Work answer refused new layer key code l k h a n s = knows_call now.first now.past (KeyboardWorked (work_reported answer) new.image) layer key code n s
+  knows_more now heard old (WorkFault mask) answer refused new layer key code l k h a n s = knows_call now.first now.past (KeyboardWorked (work_reported answer) new.image) layer key code n s
   knows_more now heard old Cut answer refused new layer key code l k h a n s =
       knows_start new.image layer key code
-      (ap (λ (image : List ℕ). keymap defaults image layer key) (ap (λ (f : SimValue). f.image) a.1.0 ∙ sym h.image) ∙ stored now layer key code l k h.lawful s)
+      (ap (λ (image : List ℕ). keymap defaults image layer key) (ap (λ (f : SimValue). f.image) a.1.0 ∙ sym h.image) ∙ stored now layer key code l k h.conforming s)
   knows_more now heard old (CutInWork mask) answer refused new layer key code l k h (work, e, w, r) n s =
-      knows_start new.image layer key code (after_step now work new.image layer key code l k h.lawful w.lawful s)
+      knows_start new.image layer key code (after_step now work new.image layer key code l k h.conforming w.conforming s)
   knows_more now heard old BusReset answer refused new layer key code l k h a n s = knows_call now.first now.past KeyboardReset layer key code n s
   knows_more now heard old (Entry at_layer at_key) answer refused new layer key code l k h a n s = s
   knows_more now heard old (SlotAt page slot) answer refused new layer key code l k h a n s = s
@@ -209,9 +209,9 @@ module _ (defaults : DefaultCodes) where
       since_more (session start (between ++ rest)) (kind step) step.flash.image past packet layer key t.0 n.0 (since_between start between rest past packet layer key t.1 n.1 s)
 
   -- the empty packet of its transfer
-  told_now : (now : Session) (past : List Call) (packet : Call) (command : Command) (image : List ℕ) (k : Kind) (layer key code : ℕ) → layer < layers → key < keys → written defaults command layer key ≡ Some code
+  reported_now : (now : Session) (past : List Call) (packet : Call) (command : Command) (image : List ℕ) (k : Kind) (layer key code : ℕ) → layer < layers → key < keys → written defaults command layer key ≡ Some code
       → accepts past packet ≡ Some command → k ≡ calls (In (EpPacket (record { items = [] }))) → Since now past packet layer key → Knows (session_with k image now) layer key code
-  told_now now past packet command image k layer key code l kk w a e s =
+  reported_now now past packet command image k layer key code l kk w a e s =
       subst (λ (x : Kind). Knows (session_with x image now) layer key code) (sym e)
       (in_session (record {
         in_layers = l;
@@ -240,10 +240,10 @@ module _ (defaults : DefaultCodes) where
       let first : Since (session start (a.packet ∷ a.before)) (session start a.before).past by.packet layer key = record { between = []; past_is = by.past_is; same = tt; none = tt } in
       let there : Since (session start rest) (session start a.before).past by.packet layer key =
       since_between start a.between (a.packet ∷ a.before) (session start a.before).past by.packet layer key a.same_transfer since.1 first in
-      let told : Knows (session start (a.status ∷ rest)) layer key code =
-      told_now (session start rest) (session start a.before).past by.packet a.command a.status.flash.image (kind a.status) layer key code a.in_layers a.in_keys a.writes by.accepted (kind_told a.status a.told) there in
+      let reported : Knows (session start (a.status ∷ rest)) layer key code =
+      reported_now (session start rest) (session start a.before).past by.packet a.command a.status.flash.image (kind a.status) layer key code a.in_layers a.in_keys a.writes by.accepted (kind_reported a.status a.reported) there in
       let after : Knows (session start (a.after ++ a.status ∷ rest)) layer key code =
-      knows_after start a.after (a.status ∷ rest) layer key code a.in_layers a.in_keys all (NoneAcceptedWrites-sooner start a.after (a.status ∷ a.between) (a.packet ∷ a.before) layer key a.not_since) told in
+      knows_after start a.after (a.status ∷ rest) layer key code a.in_layers a.in_keys all (NoneAcceptedWrites-sooner start a.after (a.status ∷ a.between) (a.packet ∷ a.before) layer key a.not_since) reported in
       let now = here defaults start (a.after ++ a.status ∷ rest) all in
       subst (λ (xs : List Step). keymap defaults (flash_after start xs).image layer key ≡ code) (sym is)
-      (ap (λ (image : List ℕ). keymap defaults image layer key) (sym now.image) ∙ stored (session start (a.after ++ a.status ∷ rest)) layer key code a.in_layers a.in_keys now.lawful after)
+      (ap (λ (image : List ℕ). keymap defaults image layer key) (sym now.image) ∙ stored (session start (a.after ++ a.status ∷ rest)) layer key code a.in_layers a.in_keys now.conforming after)

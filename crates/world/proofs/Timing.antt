@@ -17,7 +17,7 @@ use Rattle.keyboard.specs.Bounded.{steps_since, accepted_image, IsInTime}
 use Rattle.keyboard.specs.Calls.{Call, Scanned, SetUp, Out, In, Polled, Worked, BusReset, EachCall}
 use Rattle.keyboard.specs.Commands.{accepts, working}
 use Rattle.keyboard.specs.Fate.{works, settled, failed}
-use Rattle.keyboard.specs.Lawful.{IsAnswered as IsCallAnswered, WorkedOn}
+use Rattle.keyboard.specs.Conforming.{IsAnswered as IsCallAnswered, WorkedOn}
 use Rattle.keyboard.proofs.Accepting.{EndsNone}
 use Rattle.keyboard.proofs.Bounding.{steps_since-same, steps_since-more, steps_since-none}
 use Rattle.keyboard.proofs.Effects.{Effect, stays, takes, settles, fails, effect}
@@ -25,7 +25,7 @@ use Rattle.keyboard.proofs.Sessions.{Orderly, orderly, working_after, after_stay
 use Rattle.world.specs.Bounded.{StaysInTime}
 use Rattle.world.specs.History.{session, EachStep}
 use Rattle.world.specs.Kinds.{Step}
-use Rattle.world.specs.Lawful.{IsAnswered}
+use Rattle.world.specs.Conforming.{IsAnswered}
 use Rattle.world.proofs.Here.{here}
 
 none_works : (o : Option Command) (A : Type 0) → o ≡ None → IsSome o → A
@@ -97,4 +97,4 @@ module _ (defaults : DefaultCodes) where
   pub stays_in_time : (start : SimValue) (past : List Step) → EachStep (IsAnswered defaults) start past → EachStep (StaysInTime defaults) start past
   stays_in_time start [] h = tt
   stays_in_time start (step ∷ before) h =
-      (in_time (session start (step ∷ before)).first (session start (step ∷ before)).past (here defaults start (step ∷ before) h).lawful, stays_in_time start before h.1)
+      (in_time (session start (step ∷ before)).first (session start (step ∷ before)).past (here defaults start (step ∷ before) h).conforming, stays_in_time start before h.1)

@@ -10,7 +10,7 @@ use Rattle.world.specs.declared.event.Event.TheVariants.{Scan, Setup, OutPacket,
 use Rattle.world.specs.declared.event.Answer.{Answer}
 use Rattle.world.specs.Kinds.{Step, as_answer}
 use Rattle.world.specs.History.{Session, session, host_calls, flash_after, EachStep}
-use Rattle.world.specs.Lawful.{Answered, IsAnswered, IsSent, MayRefuse}
+use Rattle.world.specs.Conforming.{Answered, IsAnswered, IsSent, MayRefuse}
 use Rattle.world.specs.Memory.{WantsMemory, IsRefusedWhereWanted}
 use Rattle.layers.specs.Codes.{DefaultCodes}
 

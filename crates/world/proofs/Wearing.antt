@@ -26,7 +26,7 @@ use Rattle.host.specs.Calls.{HostCall}
 use Rattle.keyboard.specs.Bounded.{steps_since}
 use Rattle.keyboard.specs.Calls.{Call, image_after as call_image}
 use Rattle.keyboard.specs.Commands.{working}
-use Rattle.keyboard.specs.Lawful.{WorkedOn}
+use Rattle.keyboard.specs.Conforming.{WorkedOn}
 use Rattle.keyboard.specs.Operated.{IsOfTurn, erases, copies, heads, IsRecord, LosesNothing, Works}
 use Rattle.keyboard.proofs.Steps.{in_target}
 use Rattle.world.specs.declared.event.Event.{Event}
@@ -34,7 +34,7 @@ use Rattle.world.specs.declared.event.Event.TheVariants.{Scan, Setup, OutPacket,
 use Rattle.world.specs.declared.event.Answer.{Answer}
 use Rattle.world.specs.Kinds.{Step}
 use Rattle.world.specs.History.{Session, session, host_calls, flash_after, image_after, EachStep}
-use Rattle.world.specs.Lawful.{Answered, IsAnswered, WorksIn}
+use Rattle.world.specs.Conforming.{Answered, IsAnswered, WorksIn}
 use Rattle.world.specs.Wear.{CommitsHeader, WritesTail, TailWrites, at_first, one_more, passes, WearsSlowly}
 use Rattle.world.proofs.Here.{Here, here}
 
@@ -78,7 +78,7 @@ data Since (start : SimValue) (past : List Step) (first : List ℕ) (steps : Lis
   enough : TailWrites start past 127 steps → Since start past first steps now
 
 module _ (defaults : DefaultCodes) where
-  -- what a step does to the log: it turns over, spares the active page, or writes to the tail
+  -- what a step does to the log: it compacts, spares the active page, or writes to the tail
   data Wearing (old new : List ℕ) : Type 0 where
     turns_over : TurnsOver defaults old new → Wearing old new
     leaves_page : Spares old new → Wearing old new
@@ -117,7 +117,7 @@ module _ (defaults : DefaultCodes) where
   worked now (Some command) old work new i on = subst (λ (x : List ℕ). Wearing x new) i (works_wear now.first now.past command (call_image now.first now.past) work new on)
 
   worked_in : (now : Session) (old armed : SimValue) (work : WorkAnswer) (new : SimValue) → Here defaults now old → WorksIn defaults now old armed work new → Wearing old.image new.image
-  worked_in now old armed work new h w = worked now (working defaults now.first now.past) old.image work new.image h.image w.lawful
+  worked_in now old armed work new h w = worked now (working defaults now.first now.past) old.image work new.image h.image w.conforming
 
   same_flash : (old new : SimValue) → new ≡ old → Wearing old.image new.image
   same_flash old new e = leaves_page (subst (λ (x : SimValue). Spares old.image x.image) (sym e) (untouched old.image))

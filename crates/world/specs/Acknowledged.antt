@@ -1,4 +1,4 @@
--- Believed: what the host was told is stored, and which codes may stand in an entry.
+-- Trusted: what the host was told is stored, and which codes may stand in an entry.
 use Rattle.std.specs.Prelude.{◌≡◌, ℕ, ◌<◌, ◌⊎◌, Option, None, Some, List, [], ◌∷◌, ◌++◌}
 use Rattle.flash_model.specs.Sim.{SimValue}
 use Rattle.layers.specs.Codes.{layers, keys, DefaultCodes}
@@ -73,7 +73,7 @@ module _ (defaults : DefaultCodes) where
     pub accepted : accepts_here start before packet ≡ Some command
     pub writes : written defaults command layer key ≡ Some code
     pub same_transfer : SameTransfer between
-    pub told : (status.event ≡ InPacket) × (status.answer ≡ Packet (record { items = [] }))
+    pub reported : (status.event ≡ InPacket) × (status.answer ≡ Packet (record { items = [] }))
     pub not_since : NoneAcceptedWrites start (after ++ status ∷ between) (packet ∷ before) layer key
 
   -- what the host was told is stored is what the flash says
@@ -109,8 +109,8 @@ module _ (defaults : DefaultCodes) where
   codes_now start history layer key = session_codes (session start history) layer key (codes_at_start start history layer key)
 
   -- what the host was told is stored is there while no later command writes the entry; and each entry holds the code of the
-  -- latest settled command that writes it, told or not, or of one that a cut caught since
+  -- latest settled command that writes it, reported or not, or of one that a cut caught since
   pub record KeepsStored (start : SimValue) (history : List Step) : Type 0 where
-    pub told : KeepsAcknowledged start history
+    pub reported : KeepsAcknowledged start history
     pub allowed : (layer key : ℕ) → layer < layers → key < keys
         → IsOneOf (keymap defaults (image_after start history) layer key) (codes_now start history layer key)

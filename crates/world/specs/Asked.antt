@@ -1,12 +1,12 @@
--- Believed: which operation the flash is asked for.
+-- Trusted: which operation the flash is asked for.
 use Rattle.std.specs.Prelude.{Option, None, Some, List, [], ◌∷◌}
 use Rattle.std.specs.Option.{option_map}
 use Rattle.flash_model.specs.FlashOperation.{FlashOperation, programs, erases}
 use Rattle.flash_model.specs.Sim.{SimValue}
 use Rattle.layers.specs.Codes.{DefaultCodes}
 use Rattle.page_turnover.specs.Next.{on_flash}
-use Rattle.world.specs.declared.bench.Operation.{Operation}
-use Rattle.world.specs.declared.bench.Operation.TheVariants as operation
+use Rattle.world.specs.declared.injector.Operation.{Operation}
+use Rattle.world.specs.declared.injector.Operation.TheVariants as operation
 use Rattle.world.specs.Erases.{operation_of}
 use Rattle.world.specs.Kinds.{Step}
 use Rattle.world.specs.History.{flash_after}

@@ -1,4 +1,4 @@
--- Believed: how many steps of the flash work a command takes.
+-- Trusted: how many steps of the flash work a command takes.
 use Rattle.std.specs.Prelude.{List, ◌∷◌}
 use Rattle.flash_model.specs.Sim.{SimValue}
 use Rattle.layers.specs.Codes.{DefaultCodes}

@@ -1,4 +1,4 @@
--- Believed: how often pages are erased.
+-- Trusted: how often pages are erased.
 use Rattle.std.specs.Prelude.{ℕ, suc, ◌+◌, ◌≤◌, ◌==◌, ◌&&◌, Bool, true, false, Option, None, Some, List, [], ◌∷◌, slice_get}
 use Rattle.flash_model.specs.Sim.{SimValue}
 use Rattle.layers.specs.Codes.{DefaultCodes}

@@ -1,4 +1,4 @@
--- Believed: a flash that is armed by a mask, by which its next operation is torn.
+-- Trusted: a flash that is armed by a mask, by which its next operation is torn.
 use Rattle.shapes.specs.Shapes.{Bytes}
 use Rattle.std.specs.Prelude.{Some}
 use Rattle.flash_model.specs.Sim.{SimValue}

@@ -1,11 +1,11 @@
--- Believed: what has happened: the flash at the start, and steps, newest first; the session that they end in, as its
+-- Trusted: what has happened: the flash at the start, and steps, newest first; the session that they end in, as its
 -- keyboard has seen it; and what the host has heard.
 use Rattle.shapes.specs.Shapes.{Bytes}
 use Rattle.std.specs.Prelude.{Bool, not, Option, None, Some, List, [], ◌∷◌}
 use Rattle.flash_model.specs.Sim.{SimValue}
 use Rattle.keyboard.specs.Calls.{Call}
 use Rattle.host.specs.Calls.{HostCall, lost}
-use Rattle.session_law.specs.Heard.{heard, with_heard}
+use Rattle.session_theorem.specs.Heard.{heard, with_heard}
 use Rattle.world.specs.Kinds.{Step, Kind, starts, calls, looks, kind}
 
 -- the flash after these steps

@@ -1,4 +1,4 @@
--- Believed: what kind each step is. The look-backs over a history ask for the kind, so that a new event has to be placed
+-- Trusted: what kind each step is. The look-backs over a history ask for the kind, so that a new event has to be placed
 -- here alone.
 use Rattle.shapes.specs.Shapes.{Bytes}
 use Rattle.std.specs.Prelude.{Bool, Option, None, Some}
@@ -28,22 +28,22 @@ as_answer ep.Nak = Nak
 as_answer (ep.Packet packet) = Packet packet
 as_answer (ep.Stall why) = Stall why
 
--- and back. No packet has an answer that is none of endpoint 0 (`Answered`, in `Lawful`), so what it counts as is no matter
-abbrev pub ep_told : Answer → EpAnswer
-ep_told Ack = ep.Ack
-ep_told (Packet packet) = ep.Packet packet
-ep_told (Stall why) = ep.Stall why
-ep_told _ = ep.Nak
+-- and back. No packet has an answer that is none of endpoint 0 (`Answered`, in `Conforming`), so what it counts as is no matter
+abbrev pub ep_reported : Answer → EpAnswer
+ep_reported Ack = ep.Ack
+ep_reported (Packet packet) = ep.Packet packet
+ep_reported (Stall why) = ep.Stall why
+ep_reported _ = ep.Nak
 
 -- the bytes of a report that was sent, if one was
-abbrev pub bytes_told : Answer → Option Bytes
-bytes_told (Sent bytes reading) = Some bytes.items
-bytes_told _ = None
+abbrev pub bytes_reported : Answer → Option Bytes
+bytes_reported (Sent bytes reading) = Some bytes.items
+bytes_reported _ = None
 
 -- what a step of the flash work came to; no such step has another answer
-abbrev pub work_told : Answer → WorkAnswer
-work_told (Worked work) = work
-work_told _ = Idle
+abbrev pub work_reported : Answer → WorkAnswer
+work_reported (Worked work) = work
+work_reported _ = Idle
 
 -- what a step is to the keyboard
 pub data Kind : Type 0 where
@@ -58,11 +58,11 @@ pub data Kind : Type 0 where
 abbrev pub kind_of : Event → Answer → Bytes → Kind
 kind_of (Scan scan) answer image = calls (Scanned scan)
 kind_of (Setup bytes) answer image = calls (SetUp bytes)
-kind_of (OutPacket packet) answer image = calls (Out packet.items (ep_told answer))
-kind_of InPacket answer image = calls (In (ep_told answer))
-kind_of Poll answer image = calls (Polled (bytes_told answer))
-kind_of Work answer image = calls (KeyboardWorked (work_told answer) image)
-kind_of (WorkFault mask) answer image = calls (KeyboardWorked (work_told answer) image)
+kind_of (OutPacket packet) answer image = calls (Out packet.items (ep_reported answer))
+kind_of InPacket answer image = calls (In (ep_reported answer))
+kind_of Poll answer image = calls (Polled (bytes_reported answer))
+kind_of Work answer image = calls (KeyboardWorked (work_reported answer) image)
+kind_of (WorkFault mask) answer image = calls (KeyboardWorked (work_reported answer) image)
 kind_of Cut answer image = starts
 kind_of (CutInWork mask) answer image = starts
 kind_of BusReset answer image = calls KeyboardReset

@@ -5,7 +5,7 @@ pub mod Erases
 pub mod Flash
 pub mod History
 pub mod Kinds
-pub mod Lawful
+pub mod Conforming
 pub mod Memory
 pub mod Moments
 pub mod Order
@@ -14,7 +14,7 @@ pub mod Promise
 pub mod Readings
 pub mod Restart
 pub mod Sound
-pub mod Stands
+pub mod Relation
 pub mod Torn
 pub mod Wear
-pub mod ties
+pub mod representation

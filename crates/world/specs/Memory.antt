@@ -1,4 +1,4 @@
--- Believed: which steps of a history the host wants memory for.
+-- Trusted: which steps of a history the host wants memory for.
 use Rattle.std.specs.Prelude.{◌≡◌, true, IsSome, List}
 use Rattle.flash_model.specs.Sim.{SimValue}
 use Rattle.host.specs.Calls.{HostCall}

@@ -1,12 +1,12 @@
--- Believed: the moments that the reports of a session are of.
+-- Trusted: the moments that the reports of a session are of.
 use Rattle.shapes.specs.Shapes.{Bytes}
 use Rattle.std.specs.Prelude.{◌≡◌, ◌≢◌, Some, List, ◌∷◌, ◌++◌}
 use Rattle.flash_model.specs.Sim.{SimValue}
 use Rattle.host.specs.declared.reading.Reading.{Reading}
 use Rattle.layers.specs.Codes.{DefaultCodes}
 use Rattle.keyboard.specs.Calls.{Call, Polled}
-use Rattle.session_law.specs.Due.{Due}
-use Rattle.session_law.specs.Sent.{IsWantedAt}
+use Rattle.session_theorem.specs.Due.{Due}
+use Rattle.session_theorem.specs.Sent.{IsWantedAt}
 use Rattle.world.specs.declared.event.Answer.TheVariants.{Sent}
 use Rattle.world.specs.Kinds.{Step}
 use Rattle.world.specs.History.{session}

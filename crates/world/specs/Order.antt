@@ -1,4 +1,4 @@
--- Believed: in which order the flash operations of a command come, and where headers come from.
+-- Trusted: in which order the flash operations of a command come, and where headers come from.
 use Rattle.shapes.specs.Shapes.{Bytes}
 use Rattle.std.specs.Prelude.{◌≡◌, ℕ, suc, ◌<◌, Option, None, Some, List, length, slice_get}
 use Rattle.flash_model.specs.Operated.{IsOperated}

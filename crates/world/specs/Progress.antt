@@ -1,4 +1,4 @@
--- Believed: how a command is served where nothing is in its way.
+-- Trusted: how a command is served where nothing is in its way.
 use Rattle.std.specs.Prelude.{◌≡◌, ◌∷◌, ℕ, None, List, [], length}
 use Rattle.layers.specs.Codes.{DefaultCodes}
 use Rattle.layers.specs.declared.command.Command.{Command}

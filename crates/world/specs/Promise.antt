@@ -1,9 +1,9 @@
--- Believed: the promise, of a flash at the start and all that has happened since, newest first.
+-- Trusted: the guarantee, of a flash at the start and all that has happened since, newest first.
 use Rattle.std.specs.Prelude.{List}
 use Rattle.flash_model.specs.Sim.{SimValue}
 use Rattle.world.specs.Kinds.{Step}
 use Rattle.world.specs.History.{EachStep, EachPoint}
-use Rattle.world.specs.Lawful.{IsAnswered}
+use Rattle.world.specs.Conforming.{IsAnswered}
 use Rattle.world.specs.Restart.{StartsLegally, KeepsConfirmed, ShowsSettled}
 use Rattle.world.specs.Acknowledged.{KeepsStored}
 use Rattle.world.specs.Readings.{ReadsWanted, KeepsServed, GathersServed}
@@ -21,7 +21,7 @@ pub record Promise (defaults : DefaultCodes) (start : SimValue) (history : List 
   -- not fail; also where the power was cut inside a program or an erase. The prefix holds each settled one.
   pub restarts : EachStep (StartsLegally defaults) start history
   -- What the host was told is stored is what the flash says, at each moment, while no later command writes the entry. Then the
-  -- entry holds that code or a later command's: of a settled one, told or not, its code alone; a failed one, and one that
+  -- entry holds that code or a later command's: of a settled one, reported or not, its code alone; a failed one, and one that
   -- works, change nothing; one that a cut caught adds its code to those that may stand there until a later one settles.
   pub acknowledged : EachPoint (KeepsStored defaults) start history
   -- Each command that the host was told is stored is settled, and so in the prefix that the next start keeps. The keymap of

@@ -1,4 +1,4 @@
--- Believed: what a restart may leave of the keymap, and what a look at it shows.
+-- Trusted: what a restart may leave of the keymap, and what a look at it shows.
 use Rattle.std.specs.Prelude.{◌≡◌, ◌≢◌, ℕ, ◌<◌, List, [], ◌∷◌, ◌++◌}
 use Rattle.flash_model.specs.Sim.{SimValue}
 use Rattle.layers.specs.Codes.{layers, keys, DefaultCodes}

@@ -1,4 +1,4 @@
--- Believed: slot 0 of each page stays sound.
+-- Trusted: slot 0 of each page stays sound.
 use Rattle.std.specs.Prelude.{◌≡◌, List}
 use Rattle.flash_model.specs.Sim.{SimValue}
 use Rattle.page_turnover.specs.Usable.{IsUsable}

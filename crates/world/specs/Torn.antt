@@ -1,4 +1,4 @@
--- Believed: what a step leaves that is torn.
+-- Trusted: what a step leaves that is torn.
 use Rattle.std.specs.Prelude.{◌≡◌, IsSome, List}
 use Rattle.flash_model.specs.Sim.{SimValue}
 use Rattle.layers.specs.Codes.{DefaultCodes}

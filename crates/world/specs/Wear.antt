@@ -1,4 +1,4 @@
--- Believed: how often pages are turned over.
+-- Trusted: how often pages are turned over.
 use Rattle.shapes.specs.Shapes.{Bytes}
 use Rattle.std.specs.Prelude.{◌≡◌, ◌≢◌, ℕ, suc, List, [], ◌∷◌, ◌++◌}
 use Rattle.flash_model.specs.Operations.{OneSlot}

@@ -74,7 +74,7 @@ pub enum Answer {
 
 /// What comes of an event, and whether a growth of the host was refused in it.
 #[derive(Drop)]
-pub(crate) struct Told {
+pub(crate) struct Reported {
     pub(crate) answer: Answer,
     pub(crate) refused: bool,
 }

@@ -32,7 +32,7 @@ const CONTROL: usize = 0x80;
 const IN_0: usize = 0;
 const OUT_0: usize = 1;
 const IN_1: usize = 2;
-/// Where the packets of each buffer lie. Beside a packet of a read a lawful host sends none but an empty one.
+/// Where the packets of each buffer lie. Beside a packet of a read a conforming host sends none but an empty one.
 const PACKETS: [usize; 3] = [0x100, 0x100, 0x180];
 
 // The registers.

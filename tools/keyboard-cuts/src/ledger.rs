@@ -2,7 +2,7 @@
 //! What the keymap has to be, by the commands that were settled.
 
 use kbsim::Answer;
-use kbsim::parts::ecc_law::Happening;
+use kbsim::parts::ecc_theorem::Happening;
 use wuzhikar::{KeyNo, LayerNo};
 
 /// A command that sets an entry.

@@ -2,7 +2,7 @@
 //! A keyboard and its host on flash with error correction, over units of 8, 16 and 32 bytes: commands that look random, operations
 //! that are torn and told, or torn and told as done, and cuts of the power inside operations, by a mask over all cells of a unit.
 //!
-//! `keyboard_cuts EVENTS` has `ecc_law::take`, whose contract is the theorem on such flash, take so many events. After each start
+//! `keyboard_cuts EVENTS` has `ecc_theorem::take`, whose contract is the theorem on such flash, take so many events. After each start
 //! the whole keymap has to be the one that the settled commands gave, but for the command that the cut caught, which may have
 //! changed it or not, and the host has to read a key as its code; a command that the host was told is stored has to be settled; no
 //! command takes more than 387 steps; and on each flash no more commands fail than are settled.

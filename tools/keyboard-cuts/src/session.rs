@@ -3,7 +3,7 @@
 
 use std::fmt;
 
-use kbsim::parts::ecc_law::{self, Happening};
+use kbsim::parts::ecc_theorem::{self, Happening};
 use kbsim::{Answer, Host, Reading, Scan, Work};
 use wuzhikar::parts::keyboard::Room;
 use wuzhikar::{Defaults, KeyNo, KeyboardOf};
@@ -66,7 +66,7 @@ impl<'a, D: Defaults, F: EccFlash> Board<'a, D, F> {
     pub fn new(units: F, power: Power, random: Random, counts: &'a mut Counts) -> Board<'a, D, F> {
         let flash = PairedFlash::mount(units);
         let Ok(room) = Room::take(());
-        let (keyboard, host) = ecc_law::begin(room, (), &flash);
+        let (keyboard, host) = ecc_theorem::begin(room, (), &flash);
         Board { keyboard, host, flash: Some(flash), power, random, counts, ledger: Ledger::default() }
     }
 
@@ -89,7 +89,7 @@ impl<'a, D: Defaults, F: EccFlash> Board<'a, D, F> {
 
     fn take(&mut self, happening: Happening) -> Answer {
         let flash = self.flash.take().expect("a flash");
-        let (flash, told) = ecc_law::take(&mut self.keyboard, &mut self.host, flash, &happening);
+        let (flash, told) = ecc_theorem::take(&mut self.keyboard, &mut self.host, flash, &happening);
         self.flash = Some(flash);
         told.answer
     }

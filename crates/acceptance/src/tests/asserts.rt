@@ -4,24 +4,24 @@ use std::alloc::AllocError;
 use std::fmt::Debug;
 use std::process::Abort;
 
-/// Ends the test where what is told is not what is wanted.
-pub fn same<T: PartialEq + Debug>(rt: &impl Abort, told: &T, wanted: &T) {
-    assert_eq!(rt; *told, *wanted);
+/// Ends the test where what is reported is not what is wanted.
+pub fn same<T: PartialEq + Debug>(rt: &impl Abort, got: &T, wanted: &T) {
+    assert_eq!(rt; *got, *wanted);
 }
 
 /// The same, for a row, which is named then.
-pub fn same_in<T: PartialEq + Debug>(rt: &impl Abort, told: &T, wanted: &T, row: &str) {
-    same_at(rt, told, wanted, &row);
+pub fn same_in<T: PartialEq + Debug>(rt: &impl Abort, got: &T, wanted: &T, row: &str) {
+    same_at(rt, got, wanted, &row);
 }
 
 /// The same, at what is named then.
-pub fn same_at<T: PartialEq + Debug, A: Debug>(rt: &impl Abort, told: &T, wanted: &T, at: &A) {
-    assert_eq!(rt; *told, *wanted, "at {at:?}");
+pub fn same_at<T: PartialEq + Debug, A: Debug>(rt: &impl Abort, got: &T, wanted: &T, at: &A) {
+    assert_eq!(rt; *got, *wanted, "at {at:?}");
 }
 
 /// The same, of texts.
-pub fn same_text(rt: &impl Abort, told: &str, wanted: &str, row: &str) {
-    assert_eq!(rt; told, wanted, "in {row}");
+pub fn same_text(rt: &impl Abort, got: &str, wanted: &str, row: &str) {
+    assert_eq!(rt; got, wanted, "in {row}");
 }
 
 /// Ends the test where this does not hold.

@@ -198,9 +198,9 @@ fn compare_planes(rt: &impl Abort, planes: &[[u16; 6]; 3], key: u8, count: u8, s
     requires { key < 96 }
 {
     for (bit, plane) in planes.iter().enumerate() {
-        let told = (plane[key as usize / 16] >> (key % 16)) & 1;
+        let got = (plane[key as usize / 16] >> (key % 16)) & 1;
         let wanted = ((count >> (bit % 8)) & 1) as u16;
-        same_at(rt, &told, &wanted, &(bit, key, seed));
+        same_at(rt, &got, &wanted, &(bit, key, seed));
     }
 }
 
@@ -217,13 +217,13 @@ fn compare_key(
 {
     let before = debounced(samples.get(1..).unwrap_or(&[]));
     let now = debounced(samples);
-    let told = (
+    let got = (
         keys.is_down(key),
         edges.pressed.has(key),
         edges.released.has(key),
     );
     let wanted = (now, now && !before, before && !now);
-    same_at(rt, &told, &wanted, &(key, seed));
+    same_at(rt, &got, &wanted, &(key, seed));
     compare_planes(rt, keys.planes(), key, equal_latest(samples), seed);
 }
 

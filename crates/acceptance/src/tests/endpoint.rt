@@ -105,7 +105,7 @@ fn packet(bytes: &[u8]) -> EpAnswer {
 
 /// Whether an IN packet and an empty OUT packet after a SETUP packet are answered so.
 fn answers(ep: &mut ControlEp, comes: Comes) -> bool {
-    let told = ep.in_packet();
+    let got = ep.in_packet();
     let (wanted, then) = match comes {
         Refused(why) => (
             (EpAnswer::Stall(why), Effect::Nothing),
@@ -114,7 +114,7 @@ fn answers(ep: &mut ControlEp, comes: Comes) -> bool {
         Reads(byte) => ((packet(&[byte]), Effect::Nothing), EpAnswer::Ack),
         Brings(effect) => ((packet(&[]), effect), EpAnswer::Stall(Why::WrongStage)),
     };
-    told == wanted && ep.out(&[]) == OutStep::Answered(then)
+    got == wanted && ep.out(&[]) == OutStep::Answered(then)
 }
 
 #[test]

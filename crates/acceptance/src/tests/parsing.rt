@@ -97,11 +97,11 @@ fn feed_cut(parser: &mut Parser, text: &[u8], first: usize, size: usize) -> Resu
 /// Compares the answer to the pieces of a text with that to the whole of it.
 fn same_answers(
     rt: &impl Abort,
-    told: &Result<Descriptor, ParseError>,
+    got: &Result<Descriptor, ParseError>,
     whole: &Result<Descriptor, ParseError>,
     text: &[u8],
 ) {
-    match (told, whole) {
+    match (got, whole) {
         (Ok(a), Ok(b)) => {
             same(rt, &a.fields(), &b.fields());
             same(rt, &a.uses_ids(), &b.uses_ids());
@@ -174,24 +174,24 @@ fn feeds<R: AllocGlobal + Abort>(rt: &R, rows: &str) {
     let mut parser = Parser::new(rt.alloc());
     for row in pieces.lines() {
         let (piece, wanted) = two(rt, row, " = ");
-        let told = parser.feed(&bytes(rt, piece));
-        takes(rt, rt.alloc(), told, wanted, row);
+        let got = parser.feed(&bytes(rt, piece));
+        takes(rt, rt.alloc(), got, wanted, row);
     }
     shows(rt, rt.alloc(), &Answer(&parser.finish()), end, rows);
 }
 
-fn takes(rt: &impl Abort, alloc: Global, told: Result<(), ParseError>, wanted: &str, row: &str) {
-    match told {
+fn takes(rt: &impl Abort, alloc: Global, got: Result<(), ParseError>, wanted: &str, row: &str) {
+    match got {
         Ok(()) => same_text(rt, "ok", wanted, row),
         Err(error) => {
-            let told = format!(in alloc; "{} at {}", error.fault.number(), error.offset);
-            same_text(rt, made(rt, told).as_str(), wanted, row);
+            let got = format!(in alloc; "{} at {}", error.fault.number(), error.offset);
+            same_text(rt, made(rt, got).as_str(), wanted, row);
         }
     }
 }
 
 #[test]
-fn an_item_is_judged_once_it_is_whole(rt: HostRuntime) {
+fn an_item_is_checked_once_it_is_whole(rt: HostRuntime) {
     for rows in WHOLE_ITEMS.split("\n\n") {
         feeds(&rt, rows);
     }
@@ -272,12 +272,12 @@ fn check_prefix<R: AllocGlobal + Abort>(rt: &R, text: &[u8], len: usize, wanted:
 fn said_of_prefix(
     rt: &impl Abort,
     alloc: Global,
-    told: &Result<Descriptor, ParseError>,
+    got: &Result<Descriptor, ParseError>,
     wanted: &str,
 ) {
-    let told = match told {
+    let got = match got {
         Ok(descriptor) => format!(in alloc; "{}", descriptor.fields().len()),
         Err(error) => format!(in alloc; "{}at{}", error.fault.number(), error.offset),
     };
-    same_text(rt, made(rt, told).as_str(), wanted, wanted);
+    same_text(rt, made(rt, got).as_str(), wanted, wanted);
 }

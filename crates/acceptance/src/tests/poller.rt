@@ -221,10 +221,10 @@ impl Watched {
 
     fn poll(&mut self, rt: &impl Abort, at: u32) {
         let (held, _) = HELD[self.row % 8];
-        let told = self.poller.poll(&usages(rt, held), self.protocol);
+        let got = self.poller.poll(&usages(rt, held), self.protocol);
         let wanted = answer(&self.past, self.row, self.protocol, self.idle);
-        same_at(rt, &told, &wanted, &at);
-        self.remember(rt, Past::Polled(told));
+        same_at(rt, &got, &wanted, &at);
+        self.remember(rt, Past::Polled(got));
     }
 
     fn set_idle(&mut self, id: IdleId, duration: u8) {

@@ -31,7 +31,7 @@ fn read_by<R: AllocGlobal + Abort>(rt: &R, descriptor: &[u8], row: &str) {
         .ok()
         .expect(rt, "a descriptor");
     match extract(rt.alloc(), &descriptor, &bytes(rt, report)) {
-        Ok(found) => told(rt, rt.alloc(), &found, wanted, row),
+        Ok(found) => got(rt, rt.alloc(), &found, wanted, row),
         Err(error) => {
             let number = error.number();
             shows(rt, rt.alloc(), &number, wanted, row);
@@ -39,7 +39,7 @@ fn read_by<R: AllocGlobal + Abort>(rt: &R, descriptor: &[u8], row: &str) {
     }
 }
 
-fn told(rt: &impl Abort, alloc: Global, found: &[Found], wanted: &str, row: &str) {
+fn got(rt: &impl Abort, alloc: Global, found: &[Found], wanted: &str, row: &str) {
     let on = made(rt, pressed(alloc, found));
     shows(rt, alloc, &FoundAndPressed(found, &on), wanted, row);
 }

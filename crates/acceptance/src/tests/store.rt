@@ -21,7 +21,7 @@ struct Device {
 impl Model for Device {
     ghost use Rattle.std.specs.Prelude.{ℕ, List};
     ghost use Rattle.layers.specs.Standard.{standard};
-    ghost use Rattle.keymap_store.specs.ties.Store.{Mirrors};
+    ghost use Rattle.keymap_store.specs.representation.Store.{Mirrors};
 
     ghost Value = { List ℕ };
 

@@ -4,10 +4,10 @@ ghost use Rattle.std.specs.Prelude.{◌≡◌, ◌≢◌, ◌↔◌, ◌+◌, �
 ghost use Rattle.flash_model.specs.Image.{page_count};
 ghost use Rattle.page_turnover.specs.Usable.{IsUsable};
 ghost use Rattle.page_turnover.specs.Value.{Rest, Append, Copy, Seal};
-ghost use Rattle.page_turnover.specs.ties.Value.{target_value};
+ghost use Rattle.page_turnover.specs.representation.Value.{target_value};
 ghost use Rattle.page_turnover.specs.Turn.{target_page, copied, HasShortWord};
 ghost use Rattle.page_turnover.specs.Next.{is_ready};
-ghost use Rattle.page_turnover.specs.ties.Made.{IsPassedOver};
+ghost use Rattle.page_turnover.specs.representation.Made.{IsPassedOver};
 
 use super::{ActivePage, Log, Target, Task};
 use crate::header::{FORMAT, header};
@@ -32,22 +32,22 @@ pub enum Step {
 
 impl Log {
     ghost use Rattle.page_turnover.specs.Log.{HasTailRoom};
-    ghost use Rattle.page_turnover.specs.ties.Log.{Describes};
+    ghost use Rattle.page_turnover.specs.representation.Log.{Describes};
     ghost use Rattle.page_turnover.specs.Next.{next_operation, append_operation, turn_operation, on_flash};
     ghost use Rattle.page_turnover.specs.Operates.{Operates, MayOperate, FillsAtMostOne};
-    ghost use Rattle.page_turnover.specs.ties.Made.{Advances, CanAdvance};
+    ghost use Rattle.page_turnover.specs.representation.Made.{Advances, CanAdvance};
     ghost use Rattle.page_turnover.specs.Steps.{EndsAs, AttemptsNext, CountsAs, Moves, Commits};
 
     /// Makes the one operation that is pending, or none where nothing is.
     ///
-    /// The flash has to be the one that the log describes. A turn first erases its target if that is
+    /// The flash has to be the one that the log describes. A compaction first erases its target if that is
     /// not blank, and what is pending stays so. A copy goes to the slot after those made before it,
-    /// from slot 1 on. The seal programs slot 0 with the header of the next sequence number, 1 without
-    /// an active page, in format 2, which commits the turn: the copies are then the words.
+    /// from slot 1 on. The commit header programs slot 0 with the header of the next sequence number, 1 without
+    /// an active page, in format 2, which commits the compaction: the copies are then the words.
     ///
     /// After a fault the slot or the page is read back. Where it reads as intended the operation
     /// counts as done; where it does not, and only there, the answer is `Failed`. The words are then
-    /// as before; an append or a turn has to be begun anew, and a turn then erases what it wrote.
+    /// as before; an append or a compaction has to be begun anew, and a compaction then erases what it wrote.
     pub fn step<F: NorFlash>(&mut self, flash: &mut F) -> Step
         requires { Describes (F.image flash.old) self.old }
         // the log describes the flash again, and has done what was pending, or nothing of it
@@ -111,7 +111,7 @@ impl Log {
         }
     }
 
-    /// A word goes to a slot of a turn's target, or the target is erased first.
+    /// A word goes to a slot of a compaction's target, or the target is erased first.
     fn on_target<F: NorFlash>(&self, flash: &F, target: Target, slot: u16, word: u32) -> Operation
         requires { Describes (F.image flash.now) self.now }
         ensures { result ≡ turn_operation (is_ready (F.image flash.now) (target_value target)) (F.image flash.now) slot word }
@@ -215,7 +215,7 @@ impl Log {
         Step::Failed
     }
 
-    /// The page that a turn writes.
+    /// The page that a compaction writes.
     fn target<F: NorFlash>(&self, flash: &F) -> u8
         requires { Describes (F.image flash.now) self.now }
         ensures page { result ≡ target_page (F.image flash.now) }
@@ -268,7 +268,7 @@ fn passed_over<F: NorFlash>(flash: &F, active: ActivePage) -> ActivePage
     }
 }
 
-/// How many copies a turn's target holds.
+/// How many copies a compaction's target holds.
 fn copies_of(target: Target) -> u16
     ensures { result ≡ copied (target_value target) }
 {
@@ -278,7 +278,7 @@ fn copies_of(target: Target) -> u16
     }
 }
 
-/// Whether a turn's target holds its copies, or is blank before the first: else it is erased.
+/// Whether a compaction's target holds its copies, or is blank before the first: else it is erased.
 fn is_ready<F: NorFlash>(flash: &F, page: u8, target: Target) -> bool
     requires in_pages { page < page_count (F.image flash.now) }
     requires is_target { page ≡ target_page (F.image flash.now) }

@@ -8,7 +8,7 @@ use super::{Log, Target, Task};
 use crate::header::LAST_SEQ;
 use flash_model::PAGE_SLOTS;
 
-/// Why no turn was begun.
+/// Why no compaction was begun.
 #[derive(Clone, Copy, Debug, PartialEq, Eq)]
 pub enum TurnRefusal {
     /// Slot 0 of a page is not sound.
@@ -19,7 +19,7 @@ pub enum TurnRefusal {
 
 impl Log {
     ghost use Rattle.page_turnover.specs.Log.{HasTailRoom};
-    ghost use Rattle.page_turnover.specs.ties.Log.{Describes};
+    ghost use Rattle.page_turnover.specs.representation.Log.{Describes};
     ghost use Rattle.page_turnover.specs.Refusal.{MayTurn, Refuses};
 
     /// Takes a word to append; the next step programs it.
@@ -33,8 +33,8 @@ impl Log {
         self.task = Task::Append(word);
     }
 
-    /// Begins a turn to the page after the active one, or to page 0 without one. The turn then wants
-    /// its copies and its seal. Refused are first `Unsound` and then `Worn`, and nothing changes.
+    /// Begins a compaction to the page after the active one, or to page 0 without one. The compaction then wants
+    /// its copies and its commit header. Refused are first `Unsound` and then `Worn`, and nothing changes.
     pub fn begin_turn(&mut self) -> Result<(), TurnRefusal>
         requires { self.old.task ≡ Rest }
         ensures begun { MatchResult result
@@ -47,7 +47,7 @@ impl Log {
         Ok(())
     }
 
-    /// Whether a turn may begin, or the first reason why not.
+    /// Whether a compaction may begin, or the first reason why not.
     fn may_turn(&self) -> Result<(), TurnRefusal>
         ensures { MatchResult result (λ _. MayTurn self.now) (λ why. Refuses self.now why) }
     {
@@ -60,7 +60,7 @@ impl Log {
         }
     }
 
-    /// Whether a turn is under way, and neither a copy nor its seal is pending.
+    /// Whether a compaction is under way, and neither a copy nor its commit header is pending.
     pub fn wants(&self) -> bool
         ensures { IsTrue result ↔ IsWaiting self.now.task }
     {
@@ -70,7 +70,7 @@ impl Log {
         }
     }
 
-    /// Whether a turn is under way that wants a copy or its seal and has made fewer than 511 copies,
+    /// Whether a compaction is under way that wants a copy or its commit header and has made fewer than 511 copies,
     /// so that it can take one more.
     pub fn wants_copy(&self) -> bool
         ensures { IsTrue result ↔ CanOffer self.now.task }
@@ -82,7 +82,7 @@ impl Log {
         }
     }
 
-    /// Offers the next word to copy to a turn that wants one and has made fewer than 511 copies
+    /// Offers the next word to copy to a compaction that wants one and has made fewer than 511 copies
     /// (`wants_copy`); the next step that does not erase the target programs it.
     pub fn offer_copy(&mut self, word: u32)
         requires { CanOffer self.old.task }
@@ -94,7 +94,7 @@ impl Log {
         }
     }
 
-    /// Ends the copies of a turn that wants one: the header is next, and commits the turn.
+    /// Ends the copies of a compaction that wants one: the header is next, and commits the compaction.
     pub fn seal(&mut self)
         requires { IsWaiting self.old.task }
         ensures pending { self.new ≡ record self.old { task = with_seal self.old.task } }

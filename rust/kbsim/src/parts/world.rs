@@ -5,21 +5,21 @@
 //! `World` holds a `Keyboard`, a `Host` and a `SimFlash`, and `World::run` hands events on, tears
 //! flash operations and cuts the power. The contract of `run` says, for every list of events on every
 //! image, what each answer is by what came before it, what the host reads in each report, and what a
-//! power cut may leave of the keymap. The laws say what follows for every history.
+//! power cut may leave of the keymap. The theorems say what follows for every history.
 //!
-//! A `World` keeps these three, and no history: that is the contract's. The promise is that of
+//! A `World` keeps these three, and no history: that is the contract's. The guarantee is that of
 //! `run`, the theorem of this repository. `kbsim` calls it, and the tests of a host's driver can.
 
-mod bench;
 mod event;
+mod injector;
 mod world;
 
-pub use bench::Operation;
 pub use wuzhikar::parts::control_ep::Why;
 pub use wuzhikar::parts::debounce::Scan;
 pub use event::{Answer, Event};
 pub use wuzhikar_log::parts::flash_model::Mask;
 pub use crate::parts::host::{Reading, UsageList};
+pub use injector::Operation;
 pub use wuzhikar::parts::keymap_store::Work;
 pub use wuzhikar::parts::reports::Report;
 pub use world::{World, WorldOf};

@@ -8,7 +8,7 @@
 #[path = "../../src/tests/buffers/host.rs"]
 pub mod host;
 
-use host::{Act, Host, Numbers, SET_CONFIGURATION, begins_endpoint_1, data, is_lawful_command, sets_protocol};
+use host::{Act, Host, Numbers, SET_CONFIGURATION, begins_endpoint_1, data, is_conforming_command, sets_protocol};
 use std::cell::RefCell;
 use std::collections::HashMap;
 use wuzhikar::{KeyNo, LayerNo, SimFlash};
@@ -166,8 +166,8 @@ impl Line {
     }
 
     fn stalled(&mut self) {
-        let is_lawful = self.host.is_lawful() && is_lawful_command(self.host.setup(), self.host.data());
-        assert!(!is_lawful, "a lawful command is stalled");
+        let is_conforming = self.host.is_conforming() && is_conforming_command(self.host.setup(), self.host.data());
+        assert!(!is_conforming, "a conforming command is stalled");
         self.host.stalled();
     }
 
@@ -186,7 +186,7 @@ impl Line {
         if sets_protocol(setup) {
             self.known.clear();
         }
-        if is_lawful_command(setup, self.host.data()) {
+        if is_conforming_command(setup, self.host.data()) {
             self.counts.confirmed += 1;
             self.confirmed.push(self.host.data().to_vec());
         }

@@ -53,17 +53,17 @@ fn serve<D: Layouted>(usb: &mut Usb<D>, bus: &RefCell<Bus>) {
     }
     usb.serve(&mut Played::on(bus));
     let bus = bus.borrow();
-    assert!(!bus.host.is_lawful() || given.is_none() || bus.given != given || given.is_some_and(|(to, _)| to == bus.address));
+    assert!(!bus.host.is_conforming() || given.is_none() || bus.given != given || given.is_some_and(|(to, _)| to == bus.address));
 }
 
 /// A history: the firmware serves, scans and works in turns, while at each call to the controller something happens on the
 /// bus. What it met, and the flash that it ends with.
 ///
-/// A lawful host then ends its transfer, configures the device and polls: what it knows of each input report is what the
+/// A conforming host then ends its transfer, configures the device and polls: what it knows of each input report is what the
 /// keyboard would report. A host forgets at a bus reset, and when it sets the protocol.
-fn history<D: Layouted>(seed: u64, lawful: bool, buffers: usize, flash: SimFlash) -> (Counts, SimFlash) {
+fn history<D: Layouted>(seed: u64, conforming: bool, buffers: usize, flash: SimFlash) -> (Counts, SimFlash) {
     let product = &PRODUCTS[seed as usize % 4];
-    let bus = &RefCell::new(Bus::new(seed, lawful, product.identity().packet_size.bytes(), buffers));
+    let bus = &RefCell::new(Bus::new(seed, conforming, product.identity().packet_size.bytes(), buffers));
     let mut usb = device::<D>(product, flash, bus);
     let mut numbers = Numbers(seed);
     for _ in 0..40 {
@@ -71,7 +71,7 @@ fn history<D: Layouted>(seed: u64, lawful: bool, buffers: usize, flash: SimFlash
         step(&mut usb, bus, &mut numbers);
         assert!(bus.borrow().endpoint_1 == usb.endpoint_1() || bus.borrow().endpoint_1 == Endpoint1::Off);
     }
-    if lawful {
+    if conforming {
         ends(&mut usb, bus);
     }
     let counts = bus.borrow().counts;
@@ -146,11 +146,11 @@ fn step<D: Layouted>(usb: &mut Usb<D>, bus: &RefCell<Bus>, numbers: &mut Numbers
 }
 
 /// So many histories by four threads, in each of which the flash goes from one to the next: each of what is counted is met.
-fn histories_of<D: Layouted>(count: u64, lawful: bool, buffers: usize) {
+fn histories_of<D: Layouted>(count: u64, conforming: bool, buffers: usize) {
     let in_one_thread = |first: u64| {
         let (mut flash, mut all) = (SimFlash::blank(2).unwrap(), Counts::default());
         for number in (first..count).step_by(4) {
-            let (counts, next) = history::<D>(number / 4 + first * count, lawful, buffers, flash);
+            let (counts, next) = history::<D>(number / 4 + first * count, conforming, buffers, flash);
             flash = next;
             all += counts;
         }
@@ -165,9 +165,9 @@ fn histories_of<D: Layouted>(count: u64, lawful: bool, buffers: usize) {
     assert!(all.0.iter().all(|met| *met as u64 > count / 150), "{all:?}");
 }
 
-fn histories(count: u64, lawful: bool, buffers: usize) {
-    histories_of::<Standard>(count / 2, lawful, buffers);
-    histories_of::<Other>(count / 2, lawful, buffers);
+fn histories(count: u64, conforming: bool, buffers: usize) {
+    histories_of::<Standard>(count / 2, conforming, buffers);
+    histories_of::<Other>(count / 2, conforming, buffers);
 }
 
 #[test]
@@ -181,7 +181,7 @@ fn what_the_host_saw_the_end_of_is_stored_and_no_key_sticks_with_two_buffers() {
 }
 
 #[test]
-fn an_unlawful_host_breaks_nothing() {
+fn a_nonconforming_host_breaks_nothing() {
     histories(count() / 10, false, 1);
     histories(count() / 10, false, 2);
 }

@@ -223,7 +223,7 @@ fn packets_in_any_order<D: Layouted>() {
 }
 
 #[test]
-fn packets_in_any_order_leave_a_lawful_device() {
+fn packets_in_any_order_leave_a_conforming_device() {
     packets_in_any_order::<Standard>();
     packets_in_any_order::<Other>();
 }

@@ -2,7 +2,7 @@
 //! Values in the bits of reports (HID 1.11, sections 5.6, 5.8, 5.10 and 6.2.2.5 to 6.2.2.8).
 //!
 //! [`read_place`] reads a place of a field: its number, where that is by the logical extents, and the usage that it has
-//! or names. [`set_place`] writes a value or a null into one, and [`write_place`] a value. The promise is that what is
+//! or names. [`set_place`] writes a value or a null into one, and [`write_place`] a value. The guarantee is that what is
 //! read there is what was asked for, and that each other bit is what it was. [`physical_value`] is what a value is in
 //! its unit, as an exact fraction.
 //!

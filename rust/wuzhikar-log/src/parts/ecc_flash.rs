@@ -7,7 +7,7 @@
 //! complement. In the check each byte of the word is XORed with the byte before it, so that each bit
 //! of the word turns two bits of the check, and four of the unit.
 //!
-//! The promise is that of `NorFlash`: a torn operation leaves no other word than that which was
+//! The guarantee is that of `NorFlash`: a torn operation leaves no other word than that which was
 //! meant. A driver implements `EccFlash`; a log, a store and a keyboard run on a
 //! `PairedFlash`.
 //!
@@ -39,7 +39,7 @@ pub const PAGE_UNITS: usize = 1024;
 ///   is set: where the chip tells that a bit was corrected in it, the answer is `None`.
 /// - the outcome of `program_unit` and `erase_units`: that the error correction corrects one cell of a
 ///   unit at most, and that a program only clears cells and an erase only sets them; the rest follows
-///   from this. A maker of a flash with another correction shows, or believes, these clauses alone.
+///   from this. A maker of a flash with another correction shows, or trusts, these clauses alone.
 /// - `others`: that no other unit, and no other page, is disturbed.
 ///
 /// ```rust

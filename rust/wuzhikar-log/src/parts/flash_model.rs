@@ -6,7 +6,7 @@
 //! `SimFlash` is one in memory.
 //!
 //! A `SimFlash` keeps the bytes, both counts, and the mask that its next operation is torn by. The
-//! promise is what a torn operation can leave: of its own bits some have taken effect and others
+//! guarantee is what a torn operation can leave: of its own bits some have taken effect and others
 //! have not, and nothing else has changed. A driver of a flash implements `NorFlash`;
 //! `page_turnover` and what stands on it write through it, and the crate `kbsim` runs on a `SimFlash`.
 

@@ -11,7 +11,7 @@
 //! operation that is cut short by the power.
 //!
 //! A `Log` keeps which page is active, its tail, and what is under way; the words stay in the
-//! flash. The promise is that each step leaves the words as they are or commits what is under way,
+//! flash. The guarantee is that each step leaves the words as they are or commits what is under way,
 //! and nothing between the two, also where the power is cut inside it. The crate `wuzhikar` calls it, and
 //! whoever keeps settings in NOR flash can.
 

@@ -5,7 +5,7 @@
 //! tells a whole write from a torn one: a write that was cut short leaves a slot that is not Good,
 //! or that is Good with the word that was meant.
 //!
-//! Nothing is kept. The promise is that what a program of a Free slot or an erase of a sound one
+//! Nothing is kept. The guarantee is that what a program of a Free slot or an erase of a sound one
 //! leaves, where it is torn, is never read as another word. `page_turnover` calls it for each slot
 //! that it reads or writes.
 

@@ -7,7 +7,7 @@
 //! values to a new page, and they stand for the same values.
 //!
 //! `Settings` keeps the log and what is under way; values are looked up in the flash, or in a table that
-//! the caller lends (`fill_table`). The promise is that each lookup is exact, whatever words a cut has
+//! the caller lends (`fill_table`). The guarantee is that each lookup is exact, whatever words a cut has
 //! left, and that at each moment of a call all of its changes are in force or none, also where the
 //! power is cut inside a flash operation. What was answered `Ok` is in force. A call makes at most 513
 //! operations, and a healthy flash with room stores each change. `step` makes one operation, for a loop

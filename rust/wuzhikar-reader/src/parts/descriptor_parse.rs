@@ -6,7 +6,7 @@
 //! they say. Nothing is trusted: any bytes may come, and the time is linear in them.
 //!
 //! A [`Descriptor`] keeps the fields in order of declaration, each with its usages, and how long each report is. It says
-//! nothing of collections, units, physical extents, Relative or Null State. The promise is that its fields are exactly
+//! nothing of collections, units, physical extents, Relative or Null State. The guarantee is that its fields are exactly
 //! those that the text declares, and that a refusal is the text's first fault. `host_extract` reads reports by it.
 
 pub mod beside;

@@ -14,7 +14,7 @@
 //!
 //! Each of the two gives one new vector. A reading takes time linear in the report's values.
 //!
-//! Nothing is kept. The promise is that a report is read exactly as its descriptor says, or refused for the first of
+//! Nothing is kept. The guarantee is that a report is read exactly as its descriptor says, or refused for the first of
 //! the reasons that it gives. The crate `kbsim` calls it.
 
 mod boot;

@@ -8,7 +8,7 @@
 //! - A data item of a size or a count past the limits, and of 2^20 bits at most, is padding of as many bits.
 //! - In a text with Report IDs, the data items before the first one are left out with their Local items.
 //!
-//! The promise is that a text which the strict reader takes gets the same answer, with nothing passed over, and that the
+//! The guarantee is that a text which the strict reader takes gets the same answer, with nothing passed over, and that the
 //! offset of a fault is one in the text itself.
 
 mod ahead;

@@ -6,7 +6,7 @@
 //! STALL. What it can't decide itself it hands out: the LED bits of an output report, the change that a
 //! status packet brings, and the command of a feature report, for which its caller gives a verdict.
 //!
-//! The promise is that each packet is answered as the stage of its transfer says, which is looked
+//! The guarantee is that each packet is answered as the stage of its transfer says, which is looked
 //! up in the calls since the SETUP packet. `keyboard` calls it, and is asked what the device is at
 //! that moment (`DeviceReports`).
 //!

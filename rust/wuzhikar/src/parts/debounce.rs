@@ -4,7 +4,7 @@
 //! row. One scan is one millisecond.
 //!
 //! A `Matrix` keeps of each key its latest sample, how many of the latest are equal, and whether it is
-//! down, 32 keys to a word. The promise is that a key has the value of the newest five equal samples in
+//! down, 32 keys to a word. The guarantee is that a key has the value of the newest five equal samples in
 //! a row, and that an edge is a change of it. `key_reports` calls it at each scan. A `Debouncer` is the
 //! same by scans, and lends the planes of the counts.
 

@@ -3,7 +3,7 @@
 //! the codes of the held keys, and the reports of the usages that they name. `KeyReports::new` takes
 //! memory, and nothing else does.
 //!
-//! `KeyReports` keeps these three parts, and nothing beside them. The promise is that a report has
+//! `KeyReports` keeps these three parts, and nothing beside them. The guarantee is that a report has
 //! the usages of the keys that are down, each by the code that it got at its press. `keyboard`
 //! calls it at each scan and poll, with the keymap of its store.
 

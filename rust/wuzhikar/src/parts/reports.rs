@@ -4,7 +4,7 @@
 //! released between two polls. `Poller::new` takes the queue's memory, and nothing else takes any.
 //!
 //! A `Poller` keeps what was made and what was sent last of each report, how many scans ago it was
-//! sent, the reports that wait, and the idle values. The promise is that each poll is answered as a look back over the
+//! sent, the reports that wait, and the idle values. The guarantee is that each poll is answered as a history function over the
 //! poller's calls says. `key_reports` calls it at each scan and poll.
 
 use arrayvec::ArrayVec;

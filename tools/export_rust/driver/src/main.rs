@@ -1,7 +1,7 @@
 //! Plays a script of `kbsim` on the exported keyboard and the exported flash in memory, and prints what `kbsim` prints.
 //!
 //! `driver [other] [--pages N | --image FILE] [--save FILE] < SCRIPT`. With `other` the default codes are those of
-//! rust/tests/src/other.rs, and `driver codes` prints them. Scripts are taken to be lawful: a fault ends the program.
+//! rust/tests/src/other.rs, and `driver codes` prints them. Scripts are taken to be conforming: a fault ends the program.
 
 use std::io::{Read, Write};
 use wuzhikar::{Defaults, EpAnswer, KeyNo, KeyboardOf, LayerNo, Layout, Mask, NorFlash, Scan, SimFlash, Standard, Work};

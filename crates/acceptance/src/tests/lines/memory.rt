@@ -14,7 +14,7 @@ const PRINTED: &str =
     "input 1 0 1 6 0 0 variable 00070004-00070008,0007000a\noutput 1 0 1 6 0 0 variable -\n";
 
 /// All is printed, or the fault alone where a request was refused.
-fn is_told<R: Abort>(rt: &R, ended: Result<(), LinesError>, printed: &[u8], expected: &str) {
+fn is_printed<R: Abort>(rt: &R, ended: Result<(), LinesError>, printed: &[u8], expected: &str) {
     let (ends, expected) = match ended {
         Ok(()) => (Ok(()), expected),
         Err(_) => (Err(LinesError::Memory), "fault memory\n"),
@@ -28,5 +28,5 @@ fn the_fault_alone(rt: HostRuntime) {
     let mut reader = TEXT;
     let mut printed: ArrayVec<u8, 128> = ArrayVec::new();
     let ended = parse_text(rt.alloc(), &mut reader, &mut printed);
-    is_told(&rt, ended, printed.as_slice(), PRINTED);
+    is_printed(&rt, ended, printed.as_slice(), PRINTED);
 }

@@ -123,9 +123,9 @@ fn set(
     let [layer, key] = place;
     let [low, high] = code.to_le_bytes();
     let report = packet_of(&[3, 1, layer, key, low, high]);
-    let told = taken(rt, world, answers, &Event::OutPacket(report));
-    if !matches!(told, Answer::Ack) {
-        return told;
+    let got = taken(rt, world, answers, &Event::OutPacket(report));
+    if !matches!(got, Answer::Ack) {
+        return got;
     }
     for _step in 0..500 {
         let worked = taken(rt, world, answers, &Event::Work);
@@ -160,18 +160,18 @@ fn fetched(
     taken(rt, world, answers, &setup);
     let mut count = 0usize;
     for _packet in 0..99 {
-        let told = taken(rt, world, answers, &Event::InPacket);
-        let Some(length) = length(&told) else {
-            return push_answer(rt, text, &told);
+        let got = taken(rt, world, answers, &Event::InPacket);
+        let Some(length) = length(&got) else {
+            return push_answer(rt, text, &got);
         };
         count = count.wrapping_add(length);
         if length < 8 {
             break;
         }
     }
-    let told = taken(rt, world, answers, &Event::OutPacket(ArrayVec::new()));
-    if !matches!(told, Answer::Ack) {
-        return push_answer(rt, text, &told);
+    let got = taken(rt, world, answers, &Event::OutPacket(ArrayVec::new()));
+    if !matches!(got, Answer::Ack) {
+        return push_answer(rt, text, &got);
     }
     let printed = made(rt, format!(in alloc; "fetched {count}"));
     push(rt, text, printed.as_str());

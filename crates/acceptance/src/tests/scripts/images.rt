@@ -95,7 +95,7 @@ fn two_headers_with_one_number(rt: HostRuntime) {
     );
 }
 
-/// A page of format 1, which the first change turns over.
+/// A page of format 1, which the first change compacts.
 const OF_FORMAT_1: &str = "0 0 01000010feffffef
     0 1 0d400010f2bfffef";
 
@@ -213,8 +213,8 @@ fn a_place_outside_the_flash_is_no_slot(rt: HostRuntime) {
     let mut world = world_on(&rt, "1 511 05000010faffffef");
     let mut answers = Vec::new(rt.alloc());
     for (page, slot) in [(2, 0), (255, 0), (0, 512), (1, 65_535), (7, 65_535)] {
-        let told = taken(&rt, &mut world, &mut answers, &Event::SlotAt { page, slot });
-        same_at(&rt, &told, &Answer::NoSlot, &(page, slot));
+        let got = taken(&rt, &mut world, &mut answers, &Event::SlotAt { page, slot });
+        same_at(&rt, &got, &Answer::NoSlot, &(page, slot));
     }
     takes(&rt, rt.alloc(), &mut world, "slot 1 511 = 05000010faffffef");
 }

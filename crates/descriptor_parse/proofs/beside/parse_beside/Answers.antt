@@ -2,13 +2,13 @@ use Rattle.std.proofs.Common.{◌≡◌, ◌-◌, ◌∙◌, sym, length, arith,
 use Rattle.std.proofs.lemmas.List.{append-nil}
 use Rattle.descriptor_parse.specs.ItemViews.{item_view}
 use Rattle.descriptor_parse.specs.Items.{item_size}
-use Rattle.descriptor_parse.specs.ties.Fed.{IsAt, IsFront}
+use Rattle.descriptor_parse.specs.representation.Fed.{IsAt, IsFront}
 use Rattle.descriptor_parse.proofs.ReadingLemmas.{size_between}
 use Rattle.descriptor_parse.proofs.BesideLemmas.{taken_none, taken_more, taken_all, went_well}
 use Rattle.descriptor_parse.proofs.beside.parse_beside.Goals as goal
 
 pub loop-item-init : goal.loop-item-init
-loop-item-init g c = taken_none g.B.Beside.stands c.args.beside.now c.args.text.now _ c.new-state.ensures
+loop-item-init g c = taken_none g.B.Beside.refines c.args.beside.now c.args.text.now _ c.new-state.ensures
 
 pub returns-in-Err-clause-refused : goal.returns-in-Err-clause-refused
 returns-in-Err-clause-refused g c =
@@ -24,11 +24,11 @@ loop-item-preserved g c =
     let size : length rest - length c.in-Some.after.now ≡ item_size rest = size_between rest c.in-Some.after.now c.in-Some.ensures.rest c.in-Some.ensures.size in
     let a : IsAt c.args.text.now (drop (item_size rest) rest) c.in-Ok.offset c.take_item.new.state =
     rw (← size) (c.in-Ok.ensures.taken c.args.text.now rest c.loop-item.at c.loop-item.invariant.at f size) in
-    rw c.in-Some.ensures.rest (taken_more g.B.Beside.stands c.args.beside.now c.loop-item.beside c.take.new.self c.args.text.now rest c.loop-item.at c.in-Ok.offset c.loop-item.state c.take_item.new.state (item_view c.in-Some.item)
+    rw c.in-Some.ensures.rest (taken_more g.B.Beside.refines c.args.beside.now c.loop-item.beside c.take.new.self c.args.text.now rest c.loop-item.at c.in-Ok.offset c.loop-item.state c.take_item.new.state (item_view c.in-Some.item)
     c.loop-item.invariant f (went_well c.take.result (sym c.is_err.ensures.value ∙ c.if-is_err.false) c.take.ensures) a)
 
 pub end-requires-clause-read : goal.end-requires-clause-read
 end-requires-clause-read g c = ∣ (c.args.text.now, (λ i. omega (arith, c.type_inv.text i)), c.loop-item.invariant.at) ∣₁
 
 pub returns-in-Ok-end-clause-beside : goal.returns-in-Ok-end-clause-beside
-returns-in-Ok-end-clause-beside g c = taken_all g.B.Beside.stands c.args.beside.now c.loop-item.beside c.args.text.now c.loop-item.rest.now c.loop-item.at c.loop-item.state c.loop-item.invariant c.in_default.ensures.size
+returns-in-Ok-end-clause-beside g c = taken_all g.B.Beside.refines c.args.beside.now c.loop-item.beside c.args.text.now c.loop-item.rest.now c.loop-item.at c.loop-item.state c.loop-item.invariant c.in_default.ensures.size

@@ -1,8 +1,8 @@
 use Rattle.std.proofs.Common.{refl, ap, sym, ◌∙◌}
 use Rattle.descriptor_parse.specs.declared.tag.Tag.TheVariants.{Global}
-use Rattle.descriptor_parse.specs.ties.GlobalsOf.{globals_of, globals_with}
+use Rattle.descriptor_parse.specs.representation.GlobalsOf.{globals_of, globals_with}
 use Rattle.descriptor_parse.proofs.StackLemmas.{not_push, not_pop}
-use Rattle.descriptor_parse.proofs.GlobalLemmas.{globals_push, stand_set}
+use Rattle.descriptor_parse.proofs.GlobalLemmas.{globals_push, refine_set}
 use Rattle.descriptor_parse.proofs.globals.take_global.Goals as goal
 
 pub returns-in_ok-save-in-Push-clause-taken : goal.returns-in_ok-save-in-Push-clause-taken
@@ -14,5 +14,5 @@ returns-in-Pop-clause-taken c = λ before item e bytes id s. c.restore.ensures g
 
 pub returns-in_default-clause-taken : goal.returns-in_default-clause-taken
 returns-in_default-clause-taken c = λ before item e bytes id s.
-    stand_set before item c.args.tag _ _ e (not_push _ c.in_default.not-Push) (not_pop _ c.in_default.not-Pop) id
+    refine_set before item c.args.tag _ _ e (not_push _ c.in_default.not-Push) (not_pop _ c.in_default.not-Pop) id
     (c.set.ensures ∙ ap (λ b. globals_with c.args.tag b c.args.globals.now.now) (sym bytes)) refl s

@@ -1,5 +1,5 @@
 use Rattle.std.proofs.Common.{ℕ, List, length}
-use Rattle.descriptor_parse.specs.ties.Fed.{IsAt}
+use Rattle.descriptor_parse.specs.representation.Fed.{IsAt}
 use Rattle.descriptor_parse.proofs.reading.read_items.Given as goal
 
 -- whatever the text was, it was read on

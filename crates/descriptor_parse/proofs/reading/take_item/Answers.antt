@@ -1,6 +1,6 @@
 use Rattle.std.proofs.Common.{◌≡◌, ◌+◌, ◌%◌, ◌≤◌, ◌<◌, ap, sym, subst, arith}
 use Rattle.std.proofs.Math.Nat.{mod-le, mod-eq_of_lt}
-use Rattle.descriptor_parse.specs.ties.Fed.{IsFront}
+use Rattle.descriptor_parse.specs.representation.Fed.{IsFront}
 use Rattle.descriptor_parse.specs.ItemViews.{item_view}
 use Rattle.descriptor_parse.specs.Items.{item_size}
 use Rattle.descriptor_parse.proofs.ItemLemmas.{size_pos}
@@ -10,7 +10,7 @@ use Rattle.descriptor_parse.proofs.reading.take_item.Goals as goal
 pub returns-then-after-gt-MAX_LEN-clause-refused : goal.returns-then-after-gt-MAX_LEN-clause-refused
 returns-then-after-gt-MAX_LEN-clause-refused c = λ text rest offset a f s.
     let o : c.args.item.now.offset ≡ offset = ap (λ i. i.offset) f.is in
-    c.judge_last.ensures text rest (rw o a) (subst (λ n. IsFront (item_view c.args.item.now) rest n) (sym o) f)
+    c.check_last.ensures text rest (rw o a) (subst (λ n. IsFront (item_view c.args.item.now) rest n) (sym o) f)
     (omega (arith, c.if-after-gt-MAX_LEN.true, mod-le (c.args.item.now.offset + c.args.size) (18446744073709551616)))
 
 pub returns-in-Err-clause-refused : goal.returns-in-Err-clause-refused

@@ -3,13 +3,13 @@ use Rattle.std.proofs.lemmas.List.{append-nil}
 use Rattle.std.proofs.lemmas.Result.{err_from_is_err_and}
 use Rattle.descriptor_parse.specs.declared.state.State.{State}
 use Rattle.descriptor_parse.specs.Parse.{Answers, Refuses}
-use Rattle.descriptor_parse.specs.ties.Fed.{IsAt}
-use Rattle.descriptor_parse.specs.ties.StateStands.{StateStands}
+use Rattle.descriptor_parse.specs.representation.Fed.{IsAt}
+use Rattle.descriptor_parse.specs.representation.StateRefines.{StateRefines}
 use Rattle.descriptor_parse.proofs.ReadingLemmas.{at_start, at_more, answers_faultless, answers_described, answers_first, answers_memory}
 use Rattle.descriptor_parse.proofs.text.parse.Goals as goal
 
 -- nothing of the text is read
-begins : (text : List ℕ) (state : State) → StateStands [] state → IsAt text text 0 state
+begins : (text : List ℕ) (state : State) → StateRefines [] state → IsAt text text 0 state
 begins text state s = at_more [] [] text 0 state (at_start state s)
 
 pub returns-in_err-offset-clause-first : goal.returns-in_err-offset-clause-first

@@ -1,8 +1,8 @@
 use Rattle.std.proofs.Common.{sym, ◌∙◌, ap, cond, Some}
 use Rattle.std.specs.Prelude.{find}
 use Rattle.field_details.specs.Around.{is_application}
-use Rattle.field_details.specs.ties.Around.{outer_in}
-use Rattle.field_details.specs.ties.Asked.{all_outwards}
+use Rattle.field_details.specs.representation.Around.{outer_in}
+use Rattle.field_details.specs.representation.Asked.{all_outwards}
 use Rattle.field_details.proofs.OutwardLemmas.{outwards_more}
 use Rattle.field_details.proofs.around.application_of.Goals as goal
 

@@ -1,6 +1,6 @@
 use Rattle.std.proofs.Common.{◌≡◌, ◌+◌, ◌≤◌, ◌∙◌, ap, length, arith}
-use Rattle.field_details.specs.ties.Around.{outer_in}
-use Rattle.field_details.specs.ties.Asked.{all_outwards}
+use Rattle.field_details.specs.representation.Around.{outer_in}
+use Rattle.field_details.specs.representation.Asked.{all_outwards}
 use Rattle.field_details.proofs.OutwardLemmas.{outwards_more, depth_few}
 use Rattle.field_details.proofs.around.depth.Goals as goal
 

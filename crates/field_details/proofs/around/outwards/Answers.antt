@@ -1,7 +1,7 @@
 use Rattle.std.proofs.Common.{◌<◌, sym, ◌∙◌, ap, ◌-◌}
 use Rattle.std.specs.Prelude.{slice_get}
-use Rattle.field_details.specs.ties.Around.{outer_in}
-use Rattle.field_details.specs.ties.Asked.{all_outwards}
+use Rattle.field_details.specs.representation.Around.{outer_in}
+use Rattle.field_details.specs.representation.Asked.{all_outwards}
 use Rattle.field_details.proofs.OutwardLemmas.{outwards_more, get_step, some_left}
 use Rattle.field_details.proofs.around.outwards.Goals as goal
 

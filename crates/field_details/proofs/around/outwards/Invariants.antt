@@ -1,7 +1,7 @@
 use Rattle.std.proofs.Common.{◌≡◌}
 use Rattle.std.specs.Prelude.{slice_get}
-use Rattle.field_details.specs.ties.Around.{height}
-use Rattle.field_details.specs.ties.Asked.{all_outwards}
+use Rattle.field_details.specs.representation.Around.{height}
+use Rattle.field_details.specs.representation.Asked.{all_outwards}
 use Rattle.field_details.proofs.around.outwards.Given as goal
 
 -- the one that is looked for is as many steps away as are left

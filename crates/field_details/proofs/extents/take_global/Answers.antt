@@ -1,8 +1,8 @@
 use Rattle.std.proofs.Common.{ap, ◌∙◌}
 use Rattle.descriptor_parse.specs.declared.tag.Tag.TheVariants.{Global}
 use Rattle.descriptor_parse.proofs.StackLemmas.{not_push, not_pop}
-use Rattle.field_details.specs.ties.Stands.{extents_of}
-use Rattle.field_details.proofs.ExtentLemmas.{extents_push, stand_known}
+use Rattle.field_details.specs.representation.Relation.{extents_of}
+use Rattle.field_details.proofs.ExtentLemmas.{extents_push, refine_known}
 use Rattle.field_details.proofs.extents.take_global.Goals as goal
 
 pub returns-in_ok-save-in-Push : goal.returns-in_ok-save-in-Push
@@ -14,4 +14,4 @@ returns-in-Pop c = λ before item e s. c.restore.ensures extents_of before item 
 
 pub returns-in_default : goal.returns-in_default
 returns-in_default c = λ before item e s.
-    stand_known before item (Global c.args.tag) _ e (λ no. cc) (not_push _ c.in_default.not-Push) (not_pop _ c.in_default.not-Pop) s
+    refine_known before item (Global c.args.tag) _ e (λ no. cc) (not_push _ c.in_default.not-Push) (not_pop _ c.in_default.not-Pop) s

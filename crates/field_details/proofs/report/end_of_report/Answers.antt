@@ -1,5 +1,5 @@
 use Rattle.std.proofs.Common.{◌≡◌, sym, ◌∙◌, ap, ◌++◌, ◌∷◌, [], cond, true}
-use Rattle.field_details.specs.ties.Stands.{end_in, end_of}
+use Rattle.field_details.specs.representation.Relation.{end_in, end_of}
 use Rattle.field_details.specs.Reports.{is_of_report}
 use Rattle.field_details.proofs.ReportLemmas.{end_in_more, end_in_none}
 use Rattle.field_details.proofs.report.end_of_report.Goals as goal

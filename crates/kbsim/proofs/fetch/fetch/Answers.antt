@@ -8,10 +8,10 @@ returns-in-Err g c = unfetched _ _ _ (search rules)
 
 pub returns-then-is_ack : goal.returns-then-is_ack
 returns-then-is_ack g c =
-    let ack : c.in_ok-told.told ≡ Ack = search rules in
-    fetched _ _ _ _ _ _ (search rules) (rw c.in-Ok.is at c.in_ok-count.ensures) c.in_ok-told.ensures ack
+    let ack : c.in_ok-reported.reported ≡ Ack = search rules in
+    fetched _ _ _ _ _ _ (search rules) (rw c.in-Ok.is at c.in_ok-count.ensures) c.in_ok-reported.ensures ack
 
 pub returns : goal.returns
 returns g c =
-    let other : c.in_ok-told.told ≢ Ack = search rules in
-    unclosed _ _ _ _ _ _ (search rules) (rw c.in-Ok.is at c.in_ok-count.ensures) c.in_ok-told.ensures other
+    let other : c.in_ok-reported.reported ≢ Ack = search rules in
+    unclosed _ _ _ _ _ _ (search rules) (rw c.in-Ok.is at c.in_ok-count.ensures) c.in_ok-reported.ensures other

@@ -1,7 +1,7 @@
 use Rattle.std.proofs.Common.{◌≡◌, true, ◌+◌, List, length, arith, subst}
 use Rattle.world.specs.declared.event.Event.{Event}
 use Rattle.world.specs.Promise.{Promise}
-use Rattle.world.specs.Stands.{Runs, room_for}
+use Rattle.world.specs.Relation.{Runs, room_for}
 use Rattle.kbsim.proofs.OutputLemmas.{passed_one}
 use Rattle.kbsim.proofs.run.pass.Goals as goal
 use Rattle.layers.specs.Standard.{standard}

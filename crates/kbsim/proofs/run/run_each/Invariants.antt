@@ -1,7 +1,7 @@
 use Rattle.std.proofs.Common.{◌≡◌, [], take}
 use Rattle.flash_model.specs.Sim.{SimValue}
 use Rattle.text_io.specs.Printers.{printed, printer_writer}
-use Rattle.world.specs.ties.Stands.{StandsFor}
+use Rattle.world.specs.representation.Relation.{Refines}
 use Rattle.kbsim.proofs.OutputLemmas.{RunSoFar}
 use Rattle.kbsim.proofs.run.run_each.Given as goal
 use Rattle.layers.specs.Standard.{standard}
@@ -13,6 +13,6 @@ pub record SoFar (run same : Type 0) : Type 0 where
 
 abbrev pub invariant-loop-line : goal.invariant-loop-line
 invariant-loop-line g l = SoFar
-    ((start : SimValue) → StandsFor standard start [] l.fn.world
+    ((start : SimValue) → Refines standard start [] l.fn.world
     → RunSoFar start (take l.line-index l.lines) l.world (printed g.W.Write.contents l.fn.printer) (printed g.W.Write.contents l.printer))
     (printer_writer l.printer ≡ printer_writer l.fn.printer)

@@ -1,6 +1,6 @@
 use Rattle.std.proofs.Common.{◌∷◌, [], ◌∙◌, append_assoc}
 use Rattle.layers.specs.Held.{Press}
-use Rattle.key_reports.specs.ties.Edges.{with_presses}
+use Rattle.key_reports.specs.representation.Edges.{with_presses}
 use Rattle.key_reports.proofs.Edges.{called-more, called-all}
 use Rattle.key_reports.proofs.Those.{key-below}
 use Rattle.key_reports.proofs.keys.press_all.Goals as goal

@@ -1,6 +1,6 @@
 use Rattle.std.proofs.Common.{◌∷◌, [], ◌∙◌, append_assoc}
 use Rattle.layers.specs.Held.{Release}
-use Rattle.key_reports.specs.ties.Edges.{with_releases}
+use Rattle.key_reports.specs.representation.Edges.{with_releases}
 use Rattle.key_reports.proofs.Edges.{called-more, called-all}
 use Rattle.key_reports.proofs.Those.{key-below}
 use Rattle.key_reports.proofs.keys.release_all.Goals as goal

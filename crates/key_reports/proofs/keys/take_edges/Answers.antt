@@ -1,5 +1,5 @@
 use Rattle.debounce.specs.declared.debouncer.Edges.{Edges}
-use Rattle.key_reports.specs.ties.Edges.{with_edges}
+use Rattle.key_reports.specs.representation.Edges.{with_edges}
 use Rattle.key_reports.proofs.Edges.{takes_edges, takes_named}
 use Rattle.key_reports.proofs.keys.take_edges.Goals as goal
 

@@ -1,7 +1,7 @@
 use Rattle.std.proofs.Common.{◌≡◌, ◌-◌, ◌≤◌, ℕ, false, slice_index_or}
 use Rattle.layers.specs.Codes.{activates, names_key_usage, names_consumer}
 use Rattle.layers.specs.Held.{any_below, passes}
-use Rattle.layers.specs.ties.HeldStands.{kept}
+use Rattle.layers.specs.representation.HeldRelation.{kept}
 use Rattle.layers.specs.Usages.{has_key, has_consumer}
 use Rattle.layers.proofs.held.name.Given as goal
 

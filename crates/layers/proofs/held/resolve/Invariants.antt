@@ -1,6 +1,6 @@
 use Rattle.std.proofs.Common.{◌≡◌, ◌<◌, ◌≤◌, ℕ, Option, false}
 use Rattle.layers.specs.Held.{counts}
-use Rattle.layers.specs.ties.HeldStands.{AreActive}
+use Rattle.layers.specs.representation.HeldRelation.{AreActive}
 use Rattle.layers.specs.Keymaps.{code_at}
 use Rattle.layers.proofs.held.resolve.Given as goal
 

@@ -1,7 +1,7 @@
 use Rattle.std.proofs.Common.{◌-◌, length}
 use Rattle.std.specs.Prelude.{map, drop}
 use Rattle.descriptor_parse.specs.ItemViews.{item_view}
-use Rattle.lenient_parse.specs.ties.Goes.{Goes}
+use Rattle.lenient_parse.specs.representation.Goes.{Goes}
 use Rattle.lenient_parse.proofs.lenient.rewrite.Given as goal
 
 -- the output so far, and what is to come

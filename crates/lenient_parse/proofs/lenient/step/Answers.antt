@@ -11,7 +11,7 @@ returns c = λ items g.
       passed = c.in_ok-take.ensures.passed;
       late = c.in_ok-take-2.ensures.late;
       set = c.in_ok-take-2.ensures.set;
-      stands = c.in_ok-take-2.ensures.stands;
+      refines = c.in_ok-take-2.ensures.refines;
     } in
     let e = c.in-Some.ensures.cases.0 in
     rw e (goes_more items (item_view c.in-Some.item.now) (map item_view c.in-Some.more.now) c.args.output.now c.take.new.self c.args.state.now c.take-2.new.self adds (rw e at g))

@@ -1,5 +1,5 @@
 use Rattle.std.proofs.Common.{refl}
-use Rattle.page_turnover.proofs.Making.{assured, programmed, program_judged, erased, erase_judged}
+use Rattle.page_turnover.proofs.Making.{assured, programmed, program_checked, erased, erase_checked}
 use Rattle.page_turnover.proofs.operation.make.Goals as goal
 
 pub returns-in-Ok-clause-made : goal.returns-in-Ok-clause-made
@@ -9,7 +9,7 @@ returns-in-Ok-clause-made g c =
 
 pub returns-in-Err-clause-made : goal.returns-in-Err-clause-made
 returns-in-Err-clause-made g c =
-    program_judged (g.F.NorFlash.image c.args.flash.now) (g.F.NorFlash.image c.program_slot.new.self) c.args.operation c.in-Program.page c.in-Program.slot c.in-Program.word c.holds.result c.in-Program.is
+    program_checked (g.F.NorFlash.image c.args.flash.now) (g.F.NorFlash.image c.program_slot.new.self) c.args.operation c.in-Program.page c.in-Program.slot c.in-Program.word c.holds.result c.in-Program.is
     c.holds.ensures c.pages-pages.ensures.whole c.in-Err.ensures.whole c.requires (rw c.encode.ensures at c.in-Err.ensures.outcome)
 
 pub returns-in-Ok-erase_page-clause-made : goal.returns-in-Ok-erase_page-clause-made
@@ -18,7 +18,7 @@ returns-in-Ok-erase_page-clause-made g c =
 
 pub returns-in-Err-erase_page-clause-made : goal.returns-in-Err-erase_page-clause-made
 returns-in-Err-erase_page-clause-made g c =
-    erase_judged (g.F.NorFlash.image c.args.flash.now) (g.F.NorFlash.image c.erase_page.new.self) c.args.operation c.in-Erase.page c.is_blank.result c.in-Erase.is
+    erase_checked (g.F.NorFlash.image c.args.flash.now) (g.F.NorFlash.image c.erase_page.new.self) c.args.operation c.in-Erase.page c.is_blank.result c.in-Erase.is
     c.is_blank.ensures c.in-Err-erase_page.ensures.whole c.requires c.in-Err-erase_page.ensures.outcome
 
 pub returns-in-Ok-clause-faultless : goal.returns-in-Ok-clause-faultless

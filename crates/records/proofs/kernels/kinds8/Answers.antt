@@ -1,6 +1,6 @@
 use Rattle.std.proofs.Common.{◌≡◌, ℕ, ◌+◌, ◌*◌, ◌-◌, ◌^◌, ◌∙◌, ◌==◌, sym, ap, bit_xor, bit_and, get_or, arith}
 use Rattle.records.specs.Blocks.{is_good, is_free}
-use Rattle.records.specs.ties.Blocks.{number_at}
+use Rattle.records.specs.representation.Blocks.{number_at}
 use Rattle.records.proofs.Lanes.{bit_of, paired_lane, good_by_xor, free_by_and, kind_in, number_bound}
 use Rattle.records.proofs.kernels.kinds8.Goals as goal
 

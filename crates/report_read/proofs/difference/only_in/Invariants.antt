@@ -1,6 +1,6 @@
 use Rattle.std.proofs.Common.{◌≡◌, take}
 use Rattle.std.specs.Prelude.{filter, not}
-use Rattle.report_read.specs.ties.Listed.{is_listed}
+use Rattle.report_read.specs.representation.Listed.{is_listed}
 use Rattle.report_read.proofs.difference.only_in.Given as goal
 
 abbrev pub invariant-loop-usage : goal.invariant-loop-usage

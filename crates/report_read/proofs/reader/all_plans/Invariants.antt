@@ -2,7 +2,7 @@ use Rattle.std.proofs.Common.{◌≡◌, ℕ, length, Some}
 use Rattle.std.specs.Prelude.{slice_get}
 use Rattle.descriptor_parse.specs.declared.field.Kind.{Kind}
 use Rattle.report_read.specs.declared.reader.Plans.{Plans}
-use Rattle.report_read.specs.ties.Plans.{IsPlan, plan_on}
+use Rattle.report_read.specs.representation.Plans.{IsPlan, plan_on}
 use Rattle.report_read.proofs.reader.all_plans.Given as goal
 
 abbrev pub invariant-loop-id : goal.invariant-loop-id

@@ -1,7 +1,7 @@
 use Rattle.std.proofs.Common.{◌<◌, length, arith}
 use Rattle.std.specs.Prelude.{All}
 use Rattle.descriptor_parse.specs.Descriptor.{bits_of}
-use Rattle.report_write.specs.ties.Fits.{FitsKept}
+use Rattle.report_write.specs.representation.Fits.{FitsKept}
 use Rattle.report_read.proofs.Lists.{lane_more}
 use Rattle.report_read.proofs.reader.lanes_of.Goals as goal
 

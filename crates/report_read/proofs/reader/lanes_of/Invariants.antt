@@ -1,6 +1,6 @@
 use Rattle.std.proofs.Common.{◌≡◌, take}
 use Rattle.std.specs.Prelude.{All, map}
-use Rattle.report_read.specs.ties.Lanes.{IsLane}
+use Rattle.report_read.specs.representation.Lanes.{IsLane}
 use Rattle.report_read.proofs.reader.lanes_of.Given as goal
 
 abbrev pub invariant-loop-one : goal.invariant-loop-one

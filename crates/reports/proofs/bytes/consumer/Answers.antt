@@ -1,6 +1,6 @@
 use Rattle.std.proofs.Common.{◌≡◌, ◌<◌, ℕ, arith, refl}
 use Rattle.layers.specs.Usages.{UsageSets, has_consumer, IsNextConsumer, HasNoConsumerFrom}
-use Rattle.reports.specs.ties.Next.{IsNext, NonePasses}
+use Rattle.reports.specs.representation.Next.{IsNext, NonePasses}
 use Rattle.reports.proofs.Following.{words_none, words_more, words_all, words_full}
 use Rattle.reports.proofs.bytes.consumer.Goals as goal
 

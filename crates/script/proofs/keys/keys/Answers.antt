@@ -12,6 +12,6 @@ loop-word-preserved c =
 
 pub returns-in_err-number : goal.returns-in_err-number
 returns-in_err-number c =
-    let told = c.in_err-number.ensures.0 in
+    let reported = c.in_err-number.ensures.0 in
     let bad = named_bad _ _ _ _ _ _ c.loop-word.invariant c.in-Some.ensures.steps c.in_err-number.ensures.1 in
     search rules

@@ -1,6 +1,6 @@
 use Rattle.std.proofs.Common.{◌≡◌}
 use Rattle.settings.specs.Settings.{settings_of}
-use Rattle.settings.specs.ties.Reading.{IsPartial, outcome}
+use Rattle.settings.specs.representation.Reading.{IsPartial, outcome}
 use Rattle.settings.proofs.lookup.value_in.Given as goal
 
 abbrev pub invariant-loop-word : goal.invariant-loop-word

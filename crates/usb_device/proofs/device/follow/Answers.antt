@@ -1,8 +1,8 @@
 use Rattle.std.proofs.Common.{Option, sym, subst, ◌∙◌}
 use Rattle.usb_device.specs.declared.answer.Endpoint1.{Endpoint1}
 use Rattle.usb_device.specs.Bus1.{Bus1}
-use Rattle.usb_device.specs.ties.Link1.{Link1, InStep}
-use Rattle.usb_device.specs.ties.Layered.{with_state}
+use Rattle.usb_device.specs.representation.Link1.{Link1, InStep}
+use Rattle.usb_device.specs.representation.Layered.{with_state}
 use Rattle.usb_device.proofs.Reporting.{goes1}
 use Rattle.usb_device.proofs.Layering.{anew_in_step}
 use Rattle.usb_device.proofs.device.follow.Goals as goal
@@ -16,8 +16,8 @@ returns-in-Some-clause-linked g c = λ calls h.
     (c.begin_anew-in-Some.ensures.linked c.in-Some.state i.1 calls c.give_up_old.ensures.none
     (goes1 i.0 c.give_up_old.new.self old i.1 calls i.2 (c.give_up_old.ensures.linked calls h)))
 
-pub returns-in-Some-clause-told : goal.returns-in-Some-clause-told
-returns-in-Some-clause-told g c = λ states h.
+pub returns-in-Some-clause-reported : goal.returns-in-Some-clause-reported
+returns-in-Some-clause-reported g c = λ states h.
     let i = c.begin_anew.ensures in
     let S : Option Endpoint1 → Type 0 = λ x. InStep (with_state x states) (g.B.Buffers.bus c.begin_anew.new.self) in
-    subst S (sym (sym c.endpoint_set.ensures ∙ c.in-Some.is)) (anew_in_step i.0 states c.in-Some.state _ i.1 _ i.2 i.3 (c.give_up_old.ensures.told states h))
+    subst S (sym (sym c.endpoint_set.ensures ∙ c.in-Some.is)) (anew_in_step i.0 states c.in-Some.state _ i.1 _ i.2 i.3 (c.give_up_old.ensures.reported states h))

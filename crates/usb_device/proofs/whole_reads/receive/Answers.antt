@@ -19,22 +19,22 @@ returns-then-len-lt8 g c = λ past s.
       | then-len-lt8-via-then-len-lt8 w ↦ last_short c.args.asked packet i.0 (omega (arith, w.if-len-lt8.true, c.len.ensures.value))
       | then-len-lt8-via-else-len-lt8+then-len-asked w ↦ last_all c.args.asked packet i.0 (omega (arith, w.if-len-asked.true, w.len-else-len-lt8.ensures.value, ap length e))
     ] in
-    let P : EpAnswer → Type 0 = λ a. g.E.Endpoints.stands (In a ∷ in_calls i.0 ++ past) c.in_packet.new.self in (
+    let P : EpAnswer → Type 0 = λ a. g.E.Endpoints.refines (In a ∷ in_calls i.0 ++ past) c.in_packet.new.self in (
       in_calls (packet ∷ i.0),
-      subst P c.in-Packet.is (c.in_packet.ensures.stands (in_calls i.0 ++ past) i.1),
+      subst P c.in-Packet.is (c.in_packet.ensures.refines (in_calls i.0 ++ past) i.1),
       (packet ∷ i.0, record { last = packet; before = i.0; packets_are = refl; ends = ends; go_on = i.2; bytes_are = e }, refl),
     )
 
 pub returns-in-Nak : goal.returns-in-Nak
 returns-in-Nak g c = λ past s.
     let i = c.loop-packet.invariant.came past s in
-    let P : EpAnswer → Type 0 = λ a. g.E.Endpoints.stands (In a ∷ in_calls i.0 ++ past) c.in_packet.new.self in
-    (In Nak ∷ in_calls i.0, subst P c.in-Nak.is (c.in_packet.ensures.stands (in_calls i.0 ++ past) i.1), (i.0, i.2, refl))
+    let P : EpAnswer → Type 0 = λ a. g.E.Endpoints.refines (In a ∷ in_calls i.0 ++ past) c.in_packet.new.self in
+    (In Nak ∷ in_calls i.0, subst P c.in-Nak.is (c.in_packet.ensures.refines (in_calls i.0 ++ past) i.1), (i.0, i.2, refl))
 
 pub returns-in-Ack : goal.returns-in-Ack
 returns-in-Ack g c = λ past s.
     let i = c.loop-packet.invariant.came past s in
-    (In c.in_packet.result ∷ in_calls i.0, c.in_packet.ensures.stands (in_calls i.0 ++ past) i.1, (c.in_packet.result, i.0, is_no_packet c.in_packet.result c.in-Ack.is, i.2, refl))
+    (In c.in_packet.result ∷ in_calls i.0, c.in_packet.ensures.refines (in_calls i.0 ++ past) i.1, (c.in_packet.result, i.0, is_no_packet c.in_packet.result c.in-Ack.is, i.2, refl))
 
 pub loop-packet-preserved : goal.loop-packet-preserved
 loop-packet-preserved g c =
@@ -46,9 +46,9 @@ loop-packet-preserved g c =
       came = λ past s.
           let i = c.loop-packet.invariant.came past s in
           let e : c.try_extend_from_slice-full.new.self.items ≡ joined i.0 ++ packet = x.0 ∙ ap (λ l. c.loop-packet.bytes.items ++ l) c.deref.ensures.0 ∙ ap (λ l. l ++ packet) i.4 in
-          let P : EpAnswer → Type 0 = λ a. g.E.Endpoints.stands (In a ∷ in_calls i.0 ++ past) c.in_packet.new.self in (
+          let P : EpAnswer → Type 0 = λ a. g.E.Endpoints.refines (In a ∷ in_calls i.0 ++ past) c.in_packet.new.self in (
             packet ∷ i.0,
-            subst P c.in-Packet.is (c.in_packet.ensures.stands (in_calls i.0 ++ past) i.1),
+            subst P c.in-Packet.is (c.in_packet.ensures.refines (in_calls i.0 ++ past) i.1),
             (
               not_last c.args.asked packet i.0 (omega (arith, c.if-len-lt8.false, c.len.ensures.value))
                   (omega (arith, c.if-len-asked.false, c.len-else-len-lt8.ensures.value, ap length e)),

@@ -8,4 +8,4 @@ returns-then-is_empty g c = λ past s. ([], s, gives_none c.args.bytes.now (sym 
 
 pub returns-else-is_empty : goal.returns-else-is_empty
 returns-else-is_empty g c = λ past s.
-    (Out c.args.bytes.now c.out.result ∷ [], c.out.ensures.stands past s, gives c.args.bytes.now c.out.result c.data_status_of.result (sym c.is_empty.ensures ∙ c.if-is_empty.false) c.data_status_of.ensures)
+    (Out c.args.bytes.now c.out.result ∷ [], c.out.ensures.refines past s, gives c.args.bytes.now c.out.result c.data_status_of.result (sym c.is_empty.ensures ∙ c.if-is_empty.false) c.data_status_of.ensures)

@@ -48,7 +48,7 @@ impl Gathering {
             length,
             mut parser,
         } = self;
-        // A fault is told again at the end, and such a text is not kept.
+        // A fault is reported again at the end, and such a text is not kept.
         match parser.feed(packet) {
             Err(error) if is_memory(error) => return Err(AllocError),
             Ok(()) | Err(_) => {}

@@ -28,11 +28,11 @@ pub(crate) fn fetch<S: Sink>(
         Ok(count) => count,
         Err(answer) => return Ok(Outcome::Answered(answer)),
     };
-    let told = send(world, ArrayVec::new(), answers, spare, sink)?;
-    if is_ack(&told) {
+    let reported = send(world, ArrayVec::new(), answers, spare, sink)?;
+    if is_ack(&reported) {
         return Ok(Outcome::Fetched(count));
     }
-    Ok(Outcome::Answered(told))
+    Ok(Outcome::Answered(reported))
 }
 
 /// Asks for the report descriptor, and takes IN packets until one is shorter than eight bytes. The

@@ -278,9 +278,9 @@ fn set<S: Sink>(
 ) -> Result<Answer, AllocError> {
     // A SETUP packet is always acknowledged.
     open(world, SET_FEATURE, answers, spare, sink)?;
-    let told = send(world, command(place, code), answers, spare, sink)?;
-    if !is_ack(&told) {
-        return Ok(told);
+    let reported = send(world, command(place, code), answers, spare, sink)?;
+    if !is_ack(&reported) {
+        return Ok(reported);
     }
     work_off(world, answers, spare, sink)?;
     let status = ask(world, answers, spare, sink)?;

@@ -1,8 +1,8 @@
 // Exported from crates/world/src/world.rt by bin/export-rust. Edit that file instead.
 //! The keyboard with its host and its flash, and the events that they take.
 
-use crate::parts::world::bench::{Bench, Operation};
-use crate::parts::world::event::{Answer, Event, Told};
+use crate::parts::world::event::{Answer, Event, Reported};
+use crate::parts::world::injector::{Injector, Operation};
 use arrayvec::ArrayVec;
 use wuzhikar::parts::debounce::Scan;
 use wuzhikar_log::parts::flash_model::{Mask, NorFlash, PAGE_SLOTS, SimFlash};
@@ -17,7 +17,7 @@ use crate::rattle::alloc::{AllocError, Global};
 pub struct WorldOf<D: Defaults> {
     keyboard: KeyboardOf<D>,
     host: Host,
-    bench: Bench,
+    injector: Injector,
 }
 
 /// A world with the standard defaults.
@@ -31,7 +31,7 @@ impl<D: Defaults> WorldOf<D> {
         Ok(WorldOf {
             keyboard,
             host: Host::new(alloc),
-            bench: Bench {
+            injector: Injector {
                 flash,
                 tear: None,
                 asked: None,
@@ -41,18 +41,18 @@ impl<D: Defaults> WorldOf<D> {
 
     /// Returns the flash.
     pub fn flash(&self) -> &SimFlash {
-        &self.bench.flash
+        &self.injector.flash
     }
 
     /// Takes the flash out of the world: keyboard and host are dropped.
     pub fn into_flash(self) -> SimFlash {
-        self.bench.flash
+        self.injector.flash
     }
 
     /// Returns the flash operation that the latest step of the flash work asked for; `None` where it
     /// asked for none.
     pub fn operation(&self) -> Option<Operation> {
-        self.bench.asked
+        self.injector.asked
     }
 
     /// Returns the host.
@@ -75,9 +75,9 @@ impl<D: Defaults> WorldOf<D> {
         for event in events {
             // Room comes first: without it the event has not happened.
             answers.reserve_in(1)?;
-            let told = self.step(event);
-            answers.push_in(told.answer)?;
-            if told.refused {
+            let reported = self.step(event);
+            answers.push_in(reported.answer)?;
+            if reported.refused {
                 return Err(AllocError);
             }
         }
@@ -85,7 +85,7 @@ impl<D: Defaults> WorldOf<D> {
     }
 
     /// Takes one event.
-    fn step(&mut self, event: &Event) -> Told {
+    fn step(&mut self, event: &Event) -> Reported {
         match event {
             Event::Scan(scan) => self.scan(*scan),
             Event::Setup(bytes) => self.setup(*bytes),
@@ -104,110 +104,114 @@ impl<D: Defaults> WorldOf<D> {
     }
 
     /// The keyboard takes a scan.
-    fn scan(&mut self, scan: Scan) -> Told {
+    fn scan(&mut self, scan: Scan) -> Reported {
         self.keyboard.scan(scan);
         just(Answer::Done)
     }
 
     /// A SETUP packet, of which the host knows.
-    fn setup(&mut self, packet: [u8; 8]) -> Told {
+    fn setup(&mut self, packet: [u8; 8]) -> Reported {
         self.keyboard.setup(packet);
         self.host.setup(packet);
         just(Answer::Ack)
     }
 
     /// An OUT packet.
-    fn out_packet(&mut self, packet: &ArrayVec<u8, 8>) -> Told {
+    fn out_packet(&mut self, packet: &ArrayVec<u8, 8>) -> Reported {
         just(as_answer(self.keyboard.out(packet.as_slice())))
     }
 
     /// An IN token: a packet of data goes to the host.
-    fn in_packet(&mut self) -> Told {
+    fn in_packet(&mut self) -> Reported {
         let answer = self.keyboard.in_packet();
         let refused = hears(&mut self.host, &answer);
-        Told {
+        Reported {
             answer: as_answer(answer),
             refused,
         }
     }
 
     /// A poll: the host reads the report, in the protocol in force.
-    fn poll(&mut self) -> Told {
+    fn poll(&mut self) -> Reported {
         let protocol = self.keyboard.protocol();
         let Some(bytes) = self.keyboard.poll() else {
             return just(Answer::Nak);
         };
         let reading = self.host.read(protocol, bytes.as_slice());
         let refused = is_no_memory(&reading);
-        Told {
+        Reported {
             answer: Answer::Sent { bytes, reading },
             refused,
         }
     }
 
     /// A step of the flash work.
-    fn work(&mut self) -> Told {
-        self.bench.asked = None;
-        let work = self.keyboard.work(&mut self.bench);
-        self.bench.tear = None;
+    fn work(&mut self) -> Reported {
+        self.injector.asked = None;
+        let work = self.keyboard.work(&mut self.injector);
+        self.injector.tear = None;
         just(Answer::Worked(work))
     }
 
     /// A step of the flash work, whose operation the mask tears.
-    fn work_fault(&mut self, tear: &Mask) -> Told {
-        self.bench.asked = None;
-        self.bench.tear = Some(copy_of(tear));
-        let work = self.keyboard.work(&mut self.bench);
-        self.bench.tear = None;
+    fn work_fault(&mut self, tear: &Mask) -> Reported {
+        self.injector.asked = None;
+        self.injector.tear = Some(copy_of(tear));
+        let work = self.keyboard.work(&mut self.injector);
+        self.injector.tear = None;
         just(Answer::Worked(work))
     }
 
     /// All RAM of the keyboard is lost, and it starts on its flash.
-    fn cut(&mut self) -> Told {
-        start_anew(&mut self.keyboard, &mut self.host, &self.bench.flash)
+    fn cut(&mut self) -> Reported {
+        start_anew(&mut self.keyboard, &mut self.host, &self.injector.flash)
     }
 
     /// The same in the middle of a step of the flash work, whose operation the mask tears.
-    fn cut_in_work(&mut self, mask: &Mask) -> Told {
-        self.bench.asked = None;
-        self.bench.tear = Some(copy_of(mask));
-        let _ = self.keyboard.work(&mut self.bench);
-        self.bench.tear = None;
-        start_anew(&mut self.keyboard, &mut self.host, &self.bench.flash)
+    fn cut_in_work(&mut self, mask: &Mask) -> Reported {
+        self.injector.asked = None;
+        self.injector.tear = Some(copy_of(mask));
+        let _ = self.keyboard.work(&mut self.injector);
+        self.injector.tear = None;
+        start_anew(&mut self.keyboard, &mut self.host, &self.injector.flash)
     }
 
     /// A bus reset, of which the host knows.
-    fn bus_reset(&mut self) -> Told {
+    fn bus_reset(&mut self) -> Reported {
         self.keyboard.bus_reset();
         self.host.lose();
         just(Answer::Done)
     }
 
     /// The code of an entry.
-    fn entry(&mut self, layer: LayerNo, key: KeyNo) -> Told {
+    fn entry(&mut self, layer: LayerNo, key: KeyNo) -> Reported {
         just(Answer::EntryIs(self.keyboard.keymap().get(layer, key)))
     }
 
     /// The bytes of a slot.
-    fn slot_at(&mut self, page: u8, slot: u16) -> Told {
-        let pages = self.bench.flash.pages();
+    fn slot_at(&mut self, page: u8, slot: u16) -> Reported {
+        let pages = self.injector.flash.pages();
         if page as usize >= pages {
             return just(Answer::NoSlot);
         }
         if slot as usize >= PAGE_SLOTS {
             return just(Answer::NoSlot);
         }
-        just(Answer::SlotIs(self.bench.flash.read_slot(page as usize, slot as usize)))
+        just(Answer::SlotIs(self.injector.flash.read_slot(page as usize, slot as usize)))
     }
 
     /// The LEDs.
-    fn leds(&mut self) -> Told {
+    fn leds(&mut self) -> Reported {
         just(Answer::LedsAre(self.keyboard.leds()))
     }
 }
 
 /// The keyboard loses all RAM and starts on its flash, and the host loses the keyboard.
-fn start_anew<D: Defaults>(keyboard: &mut KeyboardOf<D>, host: &mut Host, flash: &SimFlash) -> Told {
+fn start_anew<D: Defaults>(
+    keyboard: &mut KeyboardOf<D>,
+    host: &mut Host,
+    flash: &SimFlash,
+) -> Reported {
     keyboard.restart(flash);
     host.lose();
     just(Answer::Restarted)
@@ -223,8 +227,8 @@ fn hears(host: &mut Host, answer: &EpAnswer) -> bool {
 }
 
 /// An answer to an event in which the host took no memory.
-fn just(answer: Answer) -> Told {
-    Told {
+fn just(answer: Answer) -> Reported {
+    Reported {
         answer,
         refused: false,
     }

@@ -51,7 +51,7 @@ pub trait Buffers {
     /// Whether there are two.
     fn has_two(&self) -> bool;
 
-    /// How many packets the host has taken, and acknowledged; told once.
+    /// How many packets the host has taken, and acknowledged; reported once.
     fn taken_1(&mut self) -> usize;
 
     /// Endpoint 1 is this from now on, with empty buffers and DATA0. Without effect after a reset that `forget` did not follow.

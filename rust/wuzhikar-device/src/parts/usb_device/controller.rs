@@ -34,7 +34,7 @@ pub enum Output {
 ///
 /// It acknowledges each SETUP packet, which empties both buffers of endpoint 0: IN and OUT are answered by NAK from then on. It
 /// counts the data toggles: a packet is sent until the host acknowledges it, and one that the host sends again is acknowledged
-/// and not told (section 8.6.4). A reset of the bus empties the buffers, and drops what was not told.
+/// and not reported (section 8.6.4). A reset of the bus empties the buffers, and drops what was not reported.
 ///
 /// A controller in memory, on whose bus one SETUP packet has come:
 ///
@@ -81,6 +81,6 @@ pub trait Controller {
     fn output_0(&mut self, answer: Output);
 
     /// It answers to this address, 0 to 127, from now on. The host has the status packet of SET_ADDRESS, and has 2 ms to wait
-    /// (section 9.2.6.3). The same may be told again. Without effect where a reset has come that `waiting` did not give.
+    /// (section 9.2.6.3). The same may be reported again. Without effect where a reset has come that `waiting` did not give.
     fn set_address(&mut self, address: u8);
 }

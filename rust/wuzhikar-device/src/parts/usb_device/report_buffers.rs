@@ -212,7 +212,7 @@ impl ReportBuffers {
         self.waits = 0;
     }
 
-    /// So many packets were taken since this was told before.
+    /// So many packets were taken since this was reported before.
     pub fn taken(&mut self, count: usize) {
         self.buffered = self.buffered.saturating_sub(count);
         match self.course {

@@ -1,6 +1,6 @@
 //! A controller in memory with data toggles (USB 2.0 section 8.6), on whose bus something happens at each of its calls.
 
-use super::host::{Act, Host, Numbers, begins_endpoint_1, data, is_lawful_command, sets_protocol};
+use super::host::{Act, Host, Numbers, begins_endpoint_1, data, is_conforming_command, sets_protocol};
 use crate::{Buffers, Controller, Endpoint1, Input, Output, Report, Waiting};
 use std::cell::{RefCell, RefMut};
 use std::collections::{HashMap, VecDeque};
@@ -40,7 +40,7 @@ pub struct Bus {
     pub host: Host,
     /// Nothing happens on the bus by itself.
     pub quiet: bool,
-    /// A maker's lock stalls lawful commands.
+    /// A maker's lock stalls conforming commands.
     pub allows_stalls: bool,
     /// One of so many acknowledgements is lost; none where it is 0.
     pub loses: usize,
@@ -96,12 +96,12 @@ impl<'b> Played<'b> {
 }
 
 impl Bus {
-    pub fn new(seed: u64, lawful: bool, size: usize, buffers: usize) -> Bus {
+    pub fn new(seed: u64, conforming: bool, size: usize, buffers: usize) -> Bus {
         let mut numbers = Numbers(seed.wrapping_mul(0x9e37_79b9_7f4a_7c15));
         numbers.below(2);
         Bus {
             numbers,
-            host: Host::new(lawful, size),
+            host: Host::new(conforming, size),
             quiet: false,
             allows_stalls: false,
             loses: 4,
@@ -203,15 +203,15 @@ impl Bus {
             self.is_boot = setup[2] == 0;
             self.known.clear();
         }
-        if is_lawful_command(setup, self.host.data()) {
+        if is_conforming_command(setup, self.host.data()) {
             self.counts.0[CONFIRMED] += 1;
             self.confirmed.push(self.host.data().to_vec());
         }
     }
 
     fn stalled(&mut self) {
-        let is_lawful = self.host.is_lawful() && is_lawful_command(self.host.setup(), self.host.data());
-        assert!(!is_lawful || self.allows_stalls, "a lawful command is stalled");
+        let is_conforming = self.host.is_conforming() && is_conforming_command(self.host.setup(), self.host.data());
+        assert!(!is_conforming || self.allows_stalls, "a conforming command is stalled");
         self.counts.0[STALLS] += 1;
         self.host.stalled();
     }

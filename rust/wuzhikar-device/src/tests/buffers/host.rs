@@ -84,7 +84,7 @@ const REQUESTS: [[u8; 8]; 34] = [
     [0x00, 0x07, 0, 1, 0, 0, 18, 0],
 ];
 
-/// The request that sets the protocol, which a lawful host does not give up.
+/// The request that sets the protocol, which a conforming host does not give up.
 pub fn sets_protocol(setup: [u8; 8]) -> bool {
     setup[..2] == [0x21, 0x0b]
 }
@@ -100,16 +100,16 @@ pub fn begins_endpoint_1(setup: [u8; 8]) -> bool {
 }
 
 /// A command that a keyboard takes on a flash without a fault.
-pub fn is_lawful_command(setup: [u8; 8], data: &[u8]) -> bool {
+pub fn is_conforming_command(setup: [u8; 8], data: &[u8]) -> bool {
     setup == [0x21, 9, 3, 3, 0, 0, 6, 0] && matches!(data, [3, 1..=3, 0..=3, 0..=95, 4..=6, 0])
 }
 
-/// A host. A lawful one asks what a transfer is due, gives transfers up, and resets the bus; the other one also asks and
+/// A host. A conforming one asks what a transfer is due, gives transfers up, and resets the bus; the other one also asks and
 /// sends what is not due. Neither goes on behind a STALL.
 #[derive(Clone, Debug)]
 pub struct Host {
-    lawful: bool,
-    /// The bytes of a packet of endpoint 1. With 8 or 16 a lawful host gives up no request that begins the endpoint anew, and
+    conforming: bool,
+    /// The bytes of a packet of endpoint 1. With 8 or 16 a conforming host gives up no request that begins the endpoint anew, and
     /// with 8 it does not set the protocol: it would take two parts of reports for one.
     size: usize,
     setup: [u8; 8],
@@ -118,25 +118,25 @@ pub struct Host {
 }
 
 impl Host {
-    pub fn new(lawful: bool, size: usize) -> Host {
-        Host { lawful, size, setup: [0; 8], stage: Stage::Free, data: Vec::new() }
+    pub fn new(conforming: bool, size: usize) -> Host {
+        Host { conforming, size, setup: [0; 8], stage: Stage::Free, data: Vec::new() }
     }
 
     pub fn next(&mut self, numbers: &mut Numbers) -> Act {
-        match numbers.below(if self.lawful { 200 } else { 90 }) {
+        match numbers.below(if self.conforming { 200 } else { 90 }) {
             0 => return Act::Reset,
             1..25 => return Act::Poll,
             _ => {}
         }
-        let unlawful = !self.lawful && numbers.one_of(12);
+        let nonconforming = !self.conforming && numbers.one_of(12);
         let gives_up = numbers.one_of(16)
-            && !(self.lawful && (sets_protocol(self.setup) || self.size < 32 && begins_endpoint_1(self.setup)));
+            && !(self.conforming && (sets_protocol(self.setup) || self.size < 32 && begins_endpoint_1(self.setup)));
         match &self.stage {
             Stage::Free => Act::Setup(self.request(numbers)),
             _ if gives_up => Act::Setup(self.request(numbers)),
-            Stage::Reads(_) | Stage::Ends if unlawful => numbers.of(&[Wrong::In, Wrong::Out]).act(),
-            Stage::Writes(_) if unlawful => numbers.of(&[Wrong::In, Wrong::Out, Wrong::Empty]).act(),
-            Stage::Status if unlawful => numbers.of(&[Wrong::Out, Wrong::Empty]).act(),
+            Stage::Reads(_) | Stage::Ends if nonconforming => numbers.of(&[Wrong::In, Wrong::Out]).act(),
+            Stage::Writes(_) if nonconforming => numbers.of(&[Wrong::In, Wrong::Out, Wrong::Empty]).act(),
+            Stage::Status if nonconforming => numbers.of(&[Wrong::Out, Wrong::Empty]).act(),
             // A host may end a read at any time.
             Stage::Reads(_) if numbers.one_of(20) => Act::Out(Vec::new()),
             _ => self.due(),
@@ -156,7 +156,7 @@ impl Host {
     /// The request that it begins.
     fn request(&self, numbers: &mut Numbers) -> [u8; 8] {
         let setup = request(numbers);
-        if self.lawful && self.size == 8 && sets_protocol(setup) { SET_CONFIGURATION } else { setup }
+        if self.conforming && self.size == 8 && sets_protocol(setup) { SET_CONFIGURATION } else { setup }
     }
 
     /// A transfer begins; a write sends these data.
@@ -202,8 +202,8 @@ impl Host {
         self.setup
     }
 
-    pub fn is_lawful(&self) -> bool {
-        self.lawful
+    pub fn is_conforming(&self) -> bool {
+        self.conforming
     }
 
     /// The data of the write under way.

@@ -11,7 +11,7 @@ use wuzhikar_reader::parts::descriptor_parse::Kind;
 pub struct Applications<'a> {
     /// The report that they are of, if one is asked for.
     of: Option<(Kind, u32)>,
-    told: &'a [Detail],
+    reported: &'a [Detail],
     groups: &'a [Collection],
     /// The number of the next one that may be asked for.
     next: usize,
@@ -20,12 +20,12 @@ pub struct Applications<'a> {
 impl<'a> Applications<'a> {
     pub(crate) fn new(
         of: Option<(Kind, u32)>,
-        told: &'a [Detail],
+        reported: &'a [Detail],
         groups: &'a [Collection],
     ) -> Applications<'a> {
         Applications {
             of,
-            told,
+            reported,
             groups,
             next: 0,
         }
@@ -34,7 +34,7 @@ impl<'a> Applications<'a> {
     /// The next one, and what is left is without it; `None` past the last.
     #[inline(always)]
     fn take(&mut self) -> Option<(usize, &'a Collection)> {
-        let found = first_from(self.of, self.told, self.groups, self.next);
+        let found = first_from(self.of, self.reported, self.groups, self.next);
         match found {
             Some((number, _)) => self.next = number + 1,
             None => {}
@@ -56,13 +56,13 @@ impl<'a> Iterator for Applications<'a> {
 #[inline(always)]
 fn first_from<'a>(
     of: Option<(Kind, u32)>,
-    told: &[Detail],
+    reported: &[Detail],
     groups: &'a [Collection],
     from: usize,
 ) -> Option<(usize, &'a Collection)> {
     let mut number = from;
     while let Some(group) = groups.get(number) {
-        if belongs(of, told, groups, number, group) {
+        if belongs(of, reported, groups, number, group) {
             return Some((number, group));
         }
         number += 1;
@@ -74,14 +74,14 @@ fn first_from<'a>(
 #[inline(always)]
 fn belongs(
     of: Option<(Kind, u32)>,
-    told: &[Detail],
+    reported: &[Detail],
     groups: &[Collection],
     number: usize,
     group: &Collection,
 ) -> bool {
     match of {
         Some((kind, id)) => {
-            group.is_application() && has_inside(told, told, groups, number, kind, id)
+            group.is_application() && has_inside(reported, reported, groups, number, kind, id)
         }
         None => group.is_application(),
     }

@@ -1,13 +1,13 @@
 // Exported from crates/field_details/src/around.rt by bin/export-rust. Edit that file instead.
-//! The collections around a data item, by the numbers that are told.
+//! The collections around a data item, by the numbers that are reported.
 
 use crate::parts::field_details::collection::Collection;
 use crate::parts::field_details::detail::Detail;
 
 /// The innermost collection around a data item.
 #[inline(always)]
-pub(crate) fn inside(told: &[Detail], place: usize) -> Option<usize> {
-    match told.get(place) {
+pub(crate) fn inside(reported: &[Detail], place: usize) -> Option<usize> {
+    match reported.get(place) {
         Some(detail) => detail.inside,
         None => None,
     }
@@ -41,8 +41,12 @@ fn is_application(groups: &[Collection], number: usize) -> bool {
 
 /// The innermost Application collection around a data item.
 #[inline(always)]
-pub(crate) fn application_of(told: &[Detail], groups: &[Collection], place: usize) -> Option<usize> {
-    let mut next = inside(told, place);
+pub(crate) fn application_of(
+    reported: &[Detail],
+    groups: &[Collection],
+    place: usize,
+) -> Option<usize> {
+    let mut next = inside(reported, place);
     while let Some(number) = next {
         if is_application(groups, number) {
             return Some(number);
@@ -91,8 +95,8 @@ pub struct Around<'a> {
 
 impl<'a> Around<'a> {
     /// Those around a data item.
-    pub(crate) fn new(told: &[Detail], groups: &'a [Collection], place: usize) -> Around<'a> {
-        let inner = inside(told, place);
+    pub(crate) fn new(reported: &[Detail], groups: &'a [Collection], place: usize) -> Around<'a> {
+        let inner = inside(reported, place);
         Around {
             groups,
             inner,

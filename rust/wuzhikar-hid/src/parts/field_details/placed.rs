@@ -35,7 +35,7 @@ pub(crate) enum Question {
 #[derive(Debug)]
 pub struct PlacedFields<'a> {
     question: Question,
-    told: &'a [Detail],
+    reported: &'a [Detail],
     groups: &'a [Collection],
     /// The place of the next one that may be asked for.
     next: usize,
@@ -45,12 +45,12 @@ impl<'a> PlacedFields<'a> {
     #[inline(always)]
     pub(crate) fn new(
         question: Question,
-        told: &'a [Detail],
+        reported: &'a [Detail],
         groups: &'a [Collection],
     ) -> PlacedFields<'a> {
         PlacedFields {
             question,
-            told,
+            reported,
             groups,
             next: 0,
         }
@@ -59,7 +59,7 @@ impl<'a> PlacedFields<'a> {
     /// The next one, and what is left is without it; `None` past the last.
     #[inline(always)]
     fn take(&mut self) -> Option<Placed<'a>> {
-        let found = first_from(self.question, self.told, self.groups, self.next);
+        let found = first_from(self.question, self.reported, self.groups, self.next);
         match found {
             Some(placed) => self.next = placed.place + 1,
             None => {}
@@ -81,13 +81,13 @@ impl<'a> Iterator for PlacedFields<'a> {
 #[inline(always)]
 fn first_from<'a>(
     question: Question,
-    told: &'a [Detail],
+    reported: &'a [Detail],
     groups: &[Collection],
     from: usize,
 ) -> Option<Placed<'a>> {
     let mut place = from;
-    while let Some(detail) = told.get(place) {
-        if passes(question, told, groups, place, detail) {
+    while let Some(detail) = reported.get(place) {
+        if passes(question, reported, groups, place, detail) {
             return Some(Placed { place, detail });
         }
         place += 1;
@@ -99,7 +99,7 @@ fn first_from<'a>(
 #[inline(always)]
 fn passes(
     question: Question,
-    told: &[Detail],
+    reported: &[Detail],
     groups: &[Collection],
     place: usize,
     detail: &Detail,
@@ -108,11 +108,11 @@ fn passes(
         Question::Data => !detail.is_constant(),
         Question::Padding => detail.is_constant(),
         Question::Report(kind, id) => is_of_report(detail, kind, id),
-        Question::First => !has_report(told.split_at(place).0, detail.kind, detail.id),
+        Question::First => !has_report(reported.split_at(place).0, detail.kind, detail.id),
         Question::FirstInside(number) => {
-            let front = told.split_at(place).0;
-            is_inside(told, groups, number, place)
-                && !has_inside(front, told, groups, number, detail.kind, detail.id)
+            let front = reported.split_at(place).0;
+            is_inside(reported, groups, number, place)
+                && !has_inside(front, reported, groups, number, detail.kind, detail.id)
         }
     }
 }
@@ -130,8 +130,8 @@ fn has_report(front: &[Detail], kind: Kind, id: u32) -> bool {
 }
 
 /// Whether the data item at a place belongs to an application.
-fn is_inside(told: &[Detail], groups: &[Collection], number: usize, place: usize) -> bool {
-    match application_of(told, groups, place) {
+fn is_inside(reported: &[Detail], groups: &[Collection], number: usize, place: usize) -> bool {
+    match application_of(reported, groups, place) {
         Some(application) => application == number,
         None => false,
     }
@@ -140,7 +140,7 @@ fn is_inside(told: &[Detail], groups: &[Collection], number: usize, place: usize
 /// Whether one of the data items in front is of a report and belongs to an application.
 pub(crate) fn has_inside(
     front: &[Detail],
-    told: &[Detail],
+    reported: &[Detail],
     groups: &[Collection],
     number: usize,
     kind: Kind,
@@ -148,7 +148,7 @@ pub(crate) fn has_inside(
 ) -> bool {
     let mut place = 0;
     while let Some(detail) = front.get(place) {
-        if is_of_report(detail, kind, id) && is_inside(told, groups, number, place) {
+        if is_of_report(detail, kind, id) && is_inside(reported, groups, number, place) {
             return true;
         }
         place += 1;

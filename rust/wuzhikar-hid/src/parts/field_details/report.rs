@@ -31,15 +31,15 @@ impl ReportFacts {
 /// All reports, by their first data items.
 #[derive(Debug)]
 pub struct Reports<'a> {
-    told: &'a [Detail],
+    reported: &'a [Detail],
     firsts: PlacedFields<'a>,
 }
 
 impl<'a> Reports<'a> {
-    pub(crate) fn new(told: &'a [Detail], groups: &'a [Collection]) -> Reports<'a> {
+    pub(crate) fn new(reported: &'a [Detail], groups: &'a [Collection]) -> Reports<'a> {
         Reports {
-            told,
-            firsts: PlacedFields::new(Question::First, told, groups),
+            reported,
+            firsts: PlacedFields::new(Question::First, reported, groups),
         }
     }
 
@@ -49,7 +49,7 @@ impl<'a> Reports<'a> {
             Some(first) => Some(ReportFacts {
                 kind: first.detail.kind,
                 id: first.detail.id,
-                bits: end_of_report(self.told, first.detail.kind, first.detail.id),
+                bits: end_of_report(self.reported, first.detail.kind, first.detail.id),
             }),
             None => None,
         }
@@ -72,12 +72,12 @@ pub struct ReportsOf<'a> {
 
 impl<'a> ReportsOf<'a> {
     pub(crate) fn new(
-        told: &'a [Detail],
+        reported: &'a [Detail],
         groups: &'a [Collection],
         application: usize,
     ) -> ReportsOf<'a> {
         ReportsOf {
-            firsts: PlacedFields::new(Question::FirstInside(application), told, groups),
+            firsts: PlacedFields::new(Question::FirstInside(application), reported, groups),
         }
     }
 
@@ -99,8 +99,8 @@ impl<'a> Iterator for ReportsOf<'a> {
 }
 
 /// The bit after the last of these data items that is of a report, 0 if none is.
-pub(crate) fn end_of_report(told: &[Detail], kind: Kind, id: u32) -> u64 {
-    let mut rest = told;
+pub(crate) fn end_of_report(reported: &[Detail], kind: Kind, id: u32) -> u64 {
+    let mut rest = reported;
     // Mostly it is the last one of all.
     while let Some((last, front)) = rest.split_last() {
         if is_of_report(last, kind, id) {

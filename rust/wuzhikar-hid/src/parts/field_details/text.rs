@@ -1,7 +1,7 @@
 // Exported from crates/field_details/src/text.rt by bin/export-rust. Edit that file instead.
 //! What a text declares.
 
-use crate::parts::field_details::told::Details;
+use crate::parts::field_details::details::Details;
 use crate::parts::field_details::walk::Walk;
 use wuzhikar_reader::parts::descriptor_parse::Descriptor;
 use wuzhikar_reader::parts::descriptor_parse::beside::{Refusal, parse_beside};
@@ -12,5 +12,5 @@ use crate::rattle::alloc::Global;
 pub fn parse_details(alloc: Global, text: &[u8]) -> Result<(Descriptor, Details), Refusal> {
     let mut walk = Walk::new(alloc);
     let descriptor = parse_beside(alloc, text, &mut walk)?;
-    Ok((descriptor, walk.into_told()))
+    Ok((descriptor, walk.into_details()))
 }

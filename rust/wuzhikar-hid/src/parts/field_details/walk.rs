@@ -3,8 +3,8 @@
 
 use crate::parts::field_details::collection::Collection;
 use crate::parts::field_details::detail::Detail;
+use crate::parts::field_details::details::Details;
 use crate::parts::field_details::extents::{Extents, take_global, take_skipped};
-use crate::parts::field_details::told::Details;
 use wuzhikar_reader::parts::descriptor_parse::beside::Beside;
 use wuzhikar_reader::parts::descriptor_parse::globals::Globals;
 use wuzhikar_reader::parts::descriptor_parse::number::unsigned;
@@ -21,7 +21,7 @@ pub(crate) struct Walk {
     pub(crate) usage: Option<Usage>,
     /// The numbers of the collections that are open, outermost first.
     pub(crate) opened: crate::rattle::Vec<usize>,
-    pub(crate) told: Details,
+    pub(crate) reported: Details,
 }
 
 impl Walk {
@@ -30,19 +30,19 @@ impl Walk {
             extents: Stack::new(alloc, Extents::NONE),
             usage: None,
             opened: crate::rattle::vec::new(alloc),
-            told: Details::new(alloc),
+            reported: Details::new(alloc),
         }
     }
 
     /// What was declared.
-    pub(crate) fn into_told(self) -> Details {
+    pub(crate) fn into_details(self) -> Details {
         let Walk {
-            told,
+            reported,
             extents: _,
             usage: _,
             opened: _,
         } = self;
-        told
+        reported
     }
 
     /// Takes a Local item.
@@ -91,7 +91,7 @@ impl Walk {
             return Ok(());
         }
         let detail = self.detail(kind, offset, flags, before);
-        self.told.fields.push_in(detail)?;
+        self.reported.fields.push_in(detail)?;
         self.usage = None;
         Ok(())
     }
@@ -123,8 +123,8 @@ impl Walk {
         before: &State,
     ) -> Result<(), AllocError> {
         let collection = self.collection(offset, kind, before);
-        self.opened.push_in(self.told.collections.len())?;
-        self.told.collections.push_in(collection)?;
+        self.opened.push_in(self.reported.collections.len())?;
+        self.reported.collections.push_in(collection)?;
         self.usage = None;
         Ok(())
     }

@@ -4,7 +4,7 @@
 use crate::parts::field_values::bits::put_number;
 use wuzhikar_reader::parts::descriptor_parse::Field;
 
-/// Why a value is not written into a place. Where several hold, the first in this order is told.
+/// Why a value is not written into a place. Where several hold, the first in this order is reported.
 #[derive(Clone, Copy, Debug, PartialEq, Eq)]
 pub enum PlaceError {
     /// The field has no such place.

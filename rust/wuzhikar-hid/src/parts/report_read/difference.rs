@@ -23,7 +23,7 @@ pub struct Changed {
 /// whose value isn't 0. Values outside the logical extents count for none, nulls among them, and a usage whose low half is 0
 /// is none.
 ///
-/// 07:01 to 07:03 of a keyboard (ErrorRollOver, POSTFail, ErrorUndefined) are told as any usage. They are no keys: a report
+/// 07:01 to 07:03 of a keyboard (ErrorRollOver, POSTFail, ErrorUndefined) are reported as any usage. They are no keys: a report
 /// with one of them does not tell which keys are down.
 ///
 /// The errors are those of [`ReportReader::read`], and then `Memory`.

@@ -3,7 +3,7 @@
 
 use crate::parts::report_write::kept::{Kept, usages_of};
 use crate::parts::report_write::setting::Target;
-use crate::parts::report_write::unused::start_of;
+use crate::parts::report_write::unused::first_place;
 use wuzhikar_reader::parts::descriptor_parse::{Descriptor, FieldUsages};
 use crate::parts::field_values::number_of_usage;
 
@@ -85,7 +85,7 @@ fn place_in_range(declared: &FieldUsages<'_>, range: usize, usage: u32) -> Optio
     if usage < first || last < usage {
         return None;
     }
-    let place = start_of(declared, range) as u64 + (usage - first) as u64;
+    let place = first_place(declared, range) as u64 + (usage - first) as u64;
     if place < declared.field.count as u64 {
         Some(place as u16)
     } else {
@@ -95,7 +95,7 @@ fn place_in_range(declared: &FieldUsages<'_>, range: usize, usage: u32) -> Optio
 
 /// How many places past the list have a usage by its last one: all or none.
 fn served_by_last(declared: &FieldUsages<'_>, usage: u32) -> u16 {
-    let listed = start_of(declared, declared.ranges.len());
+    let listed = first_place(declared, declared.ranges.len());
     if listed < declared.field.count as u32 && is_usage(declared.usage(listed as usize), usage) {
         declared.field.count - listed as u16
     } else {

@@ -20,14 +20,14 @@ pub(crate) fn set_one(
         return Err(WriteError::Twice(number));
     }
     if let Err(error) = set_place(&kept.field, kept.null_state, bytes, place, asked) {
-        return Err(told(number, error));
+        return Err(as_write_error(number, error));
     }
     mark(&kept.field, marks, place);
     Ok(())
 }
 
 /// A refusal of a place, told of the setting with a number.
-fn told(number: usize, error: PlaceError) -> WriteError {
+fn as_write_error(number: usize, error: PlaceError) -> WriteError {
     match error {
         PlaceError::NoPlace => WriteError::Unknown(number),
         PlaceError::Short => WriteError::Short,

@@ -22,14 +22,14 @@ pub(crate) fn unused(declared: &FieldUsages<'_>) -> Option<i64> {
 
 /// The value past the list.
 fn past_list(declared: &FieldUsages<'_>) -> i64 {
-    declared.field.min + start_of(declared, declared.ranges.len()) as i64
+    declared.field.min + first_place(declared, declared.ranges.len()) as i64
 }
 
 /// The first value in the order of the list that names a usage whose low half is 0.
 fn id_zero(declared: &FieldUsages<'_>) -> Option<i64> {
     for range in 0..declared.ranges.len() {
         if declared.ranges[range].0 % 0x1_0000 == 0 {
-            let value = declared.field.min + start_of(declared, range) as i64;
+            let value = declared.field.min + first_place(declared, range) as i64;
             if is_unused(declared, value) {
                 return Some(value);
             }
@@ -39,7 +39,7 @@ fn id_zero(declared: &FieldUsages<'_>) -> Option<i64> {
 }
 
 /// How many usages stand before a range.
-pub(crate) fn start_of(declared: &FieldUsages<'_>, range: usize) -> u32 {
+pub(crate) fn first_place(declared: &FieldUsages<'_>, range: usize) -> u32 {
     if range == 0 {
         0
     } else {

@@ -15,7 +15,7 @@ use crate::rattle::alloc::Global;
 /// descriptor has Null State, and one that it has no word of has none.
 ///
 /// Each other bit is that of `onto`, also past the end of the report; in a new report places with Null State are null, where
-/// the field has a value for it, places of Arrays name no usage, and the rest is 0. `Memory` is told only where there is the
+/// the field has a value for it, places of Arrays name no usage, and the rest is 0. `Memory` is reported only where there is the
 /// report, and where `onto` can be written onto.
 pub fn write(
     alloc: Global,

@@ -30,7 +30,7 @@ pub struct ActivePage {
     pub tail: u16,
 }
 
-/// What is known of the page that a turn writes.
+/// What is known of the page that a compaction writes.
 #[derive(Clone, Copy, Debug)]
 pub enum Target {
     /// Nothing yet: where it is not blank it has to be erased.
@@ -46,11 +46,11 @@ pub enum Task {
     Rest,
     /// The append of a word.
     Append(u32),
-    /// A turn that waits for a copy or its seal.
+    /// A compaction that waits for a copy or its commit header.
     Wait(Target),
-    /// A turn that was offered a copy.
+    /// A compaction that was offered a copy.
     Copy(Target, u32),
-    /// A turn that was offered its seal.
+    /// A compaction that was offered its commit header.
     Seal(Target),
 }
 
@@ -62,10 +62,10 @@ impl Task {
 /// A log of words over the pages of a flash.
 ///
 /// A word is appended by `begin_append` and a `step`, where there is `room`. Where there is none, a
-/// turn makes it: `begin_turn`, then for each word that is to stay `offer_copy`, and at the end
-/// `seal`, with steps after each of them until the log `wants` the next or, after the seal, is no
-/// longer `busy`. A blank flash has no room either: it needs a turn and its seal first, without a
-/// copy. A log that is `busy` while `step` answers `Idle` waits for a copy or its seal.
+/// compaction makes it: `begin_turn`, then for each word that is to stay `offer_copy`, and at the end
+/// `seal`, with steps after each of them until the log `wants` the next or, after the commit header, is no
+/// longer `busy`. A blank flash has no room either: it needs a compaction and its commit header first, without a
+/// copy. A log that is `busy` while `step` answers `Idle` waits for a copy or its commit header.
 ///
 /// Of a flash with one unsound slot 0 (`usable`) the words are read, but nothing is ever written, so
 /// no header is lost that a damaged page may have had. No cut and no fault of an operation of a log
@@ -119,7 +119,7 @@ impl Log {
     }
 
     /// Returns the format of the active page, 1 or 2, if a page has a header. Only pages of format 2
-    /// are written; the words of one of format 1 are read, and the next turn copies them into format
+    /// are written; the words of one of format 1 are read, and the next compaction copies them into format
     /// 2.
     pub fn format(&self) -> Option<u8> {
         match self.active {

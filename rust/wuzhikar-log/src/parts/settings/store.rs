@@ -47,7 +47,7 @@ pub enum Job {
     Resting,
     /// The words of one change, of which so many are there.
     Appending(usize),
-    /// A turn to a page with all values: it was given the words of the ids below `from`, and `at` of
+    /// A compaction to a page with all values: it was given the words of the ids below `from`, and `at` of
     /// those of `from`.
     Turning { from: u32, at: usize },
 }
@@ -249,7 +249,7 @@ impl Settings {
         }
     }
 
-    /// Goes on with a turn.
+    /// Goes on with a compaction.
     fn turn<F: NorFlash>(&mut self, flash: &mut F, changes: &[Change], from: u32, at: usize) -> Work {
         self.offer_next(flash, changes, from, at);
         match self.log.step(flash) {
@@ -266,7 +266,7 @@ impl Settings {
         }
     }
 
-    /// Offers a waiting turn its next word, or its header after the last one.
+    /// Offers a waiting compaction its next word, or its header after the last one.
     fn offer_next<F: NorFlash>(&mut self, flash: &F, changes: &[Change], from: u32, at: usize) {
         if !self.log.wants() {
             return;
@@ -281,7 +281,7 @@ impl Settings {
     }
 }
 
-/// A turn that was given the words of a change up to this one.
+/// A compaction that was given the words of a change up to this one.
 fn behind(change: &Change, at: usize) -> Job {
     let id = u32::from(change.id);
     let words = size(change);

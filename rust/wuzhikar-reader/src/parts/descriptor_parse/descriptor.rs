@@ -75,7 +75,7 @@ impl Descriptor {
         };
         part(
             &self.reports.ranges,
-            start_of(&self.reports.links, field),
+            first_range(&self.reports.links, field),
             link.end,
         )
     }
@@ -88,7 +88,7 @@ impl Descriptor {
         };
         part(
             &self.reports.counts,
-            start_of(&self.reports.links, field),
+            first_range(&self.reports.links, field),
             link.end,
         )
     }
@@ -146,7 +146,7 @@ impl Debug for Descriptor {
 
 /// Where the usages of a field start.
 #[inline(always)]
-pub(crate) fn start_of(links: &[Link], field: usize) -> usize {
+pub(crate) fn first_range(links: &[Link], field: usize) -> usize {
     if field == 0 {
         return 0;
     }

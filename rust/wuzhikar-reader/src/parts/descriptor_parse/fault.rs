@@ -1,7 +1,7 @@
 // Exported from crates/descriptor_parse/src/fault.rt by bin/export-rust. Edit that file instead.
 //! What is wrong with a text, and where.
 
-/// The faults of a report descriptor, by their numbers. Where several fall on one item, the least is told.
+/// The faults of a report descriptor, by their numbers. Where several fall on one item, the least is reported.
 #[derive(Clone, Copy, Debug, PartialEq, Eq)]
 pub enum ParseFault {
     /// The text ends within an item.
@@ -24,7 +24,7 @@ pub enum ParseFault {
     CollectionDeep = 9,
     /// A second Usage Minimum or Maximum before its pair, a pair that does not match, or a Main item with one left.
     UnpairedUsage = 10,
-    /// A Usage Minimum over its Maximum, told at the second of the pair.
+    /// A Usage Minimum over its Maximum, reported at the second of the pair.
     UsageInverted = 11,
     /// An array whose Logical Minimum is over its Logical Maximum.
     LogicalInverted = 12,

@@ -39,7 +39,7 @@ impl Locals {
 
     /// The fault of a Local item.
     #[inline(always)]
-    pub(crate) fn judge(&self, tag: LocalTag, usage: Usage) -> Option<ParseFault> {
+    pub(crate) fn check(&self, tag: LocalTag, usage: Usage) -> Option<ParseFault> {
         match tag {
             LocalTag::Usage => None,
             LocalTag::UsageMinimum => match self.half {

@@ -10,7 +10,7 @@ use core::fmt::Debug;
 
 /// A parser of a report descriptor that comes in pieces, as it is read off the bus (HID 1.11, section 6.2.2).
 ///
-/// An item is judged once all its bytes are there, and at most 258 bytes of an item that is not whole yet are kept. A
+/// An item is checked once all its bytes are there, and at most 258 bytes of an item that is not whole yet are kept. A
 /// refusal ends the parser for good: each later call answers it again.
 ///
 /// ```rust

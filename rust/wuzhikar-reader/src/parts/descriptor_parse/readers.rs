@@ -1,7 +1,7 @@
 // Exported from crates/descriptor_parse/src/readers.rt by bin/export-rust. Edit that file instead.
 //! Readers of a descriptor: the fields of one report, and the usages of a field one by one.
 
-use crate::parts::descriptor_parse::descriptor::start_of;
+use crate::parts::descriptor_parse::descriptor::first_range;
 use crate::parts::descriptor_parse::field::{Field, Kind};
 use crate::parts::descriptor_parse::field_usages::FieldUsages;
 use crate::parts::descriptor_parse::reports::Link;
@@ -47,7 +47,7 @@ impl<'a> ReportFields<'a> {
         let Some(link) = self.links.get(place) else {
             return None;
         };
-        let start = start_of(self.links, place);
+        let start = first_range(self.links, place);
         let ranges = between(self.ranges, start, link.end);
         let counts = between(self.counts, start, link.end);
         self.next = link.next;

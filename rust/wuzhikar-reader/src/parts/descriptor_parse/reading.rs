@@ -132,7 +132,7 @@ pub(crate) fn read_items<'a>(
 
 /// Judges and takes a whole item of so many bytes: the offset after it.
 ///
-/// An item that reaches past the greatest length of a text is judged, and never taken.
+/// An item that reaches past the greatest length of a text is checked, and never taken.
 #[inline(always)]
 pub(crate) fn take_item(
     state: &mut State,
@@ -141,7 +141,7 @@ pub(crate) fn take_item(
 ) -> Result<usize, ParseError> {
     let after = item.offset.wrapping_add(size);
     if after > MAX_LEN {
-        return Err(judge_last(state, item.offset, item.prefix, item.bytes));
+        return Err(check_last(state, item.offset, item.prefix, item.bytes));
     }
     match state.step(item) {
         Ok(()) => Ok(after),
@@ -160,13 +160,13 @@ const TOO_LONG: ParseError = ParseError {
 /// The error of a text with an item that reaches past its greatest length: that item's fault, or that the text is too
 /// long.
 #[inline(never)]
-fn judge_last(state: &State, offset: usize, prefix: u8, bytes: &[u8]) -> ParseError {
+fn check_last(state: &State, offset: usize, prefix: u8, bytes: &[u8]) -> ParseError {
     let item = Item {
         offset,
         prefix,
         bytes,
     };
-    match state.judge(&item) {
+    match state.check(&item) {
         Some(fault) => ParseError { fault, offset },
         None => TOO_LONG,
     }

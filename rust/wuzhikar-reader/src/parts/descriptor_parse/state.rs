@@ -64,21 +64,21 @@ impl State {
     }
 
     /// The first fault of a whole item.
-    pub(crate) fn judge(&self, item: &Item<'_>) -> Option<ParseFault> {
+    pub(crate) fn check(&self, item: &Item<'_>) -> Option<ParseFault> {
         if item.prefix == LONG {
             return None;
         }
         match Tag::of(item.prefix) {
-            Tag::Main(tag) => self.judge_main(tag, unsigned(item.bytes)),
-            Tag::Global(tag) => self.judge_global(tag, item.bytes),
-            Tag::Local(tag) => self.locals.judge(tag, read_usage(item.bytes)),
+            Tag::Main(tag) => self.check_main(tag, unsigned(item.bytes)),
+            Tag::Global(tag) => self.check_global(tag, item.bytes),
+            Tag::Local(tag) => self.locals.check(tag, read_usage(item.bytes)),
             Tag::Skipped => None,
         }
     }
 
     /// The fault of a Global item.
     #[inline(always)]
-    fn judge_global(&self, tag: GlobalTag, bytes: &[u8]) -> Option<ParseFault> {
+    fn check_global(&self, tag: GlobalTag, bytes: &[u8]) -> Option<ParseFault> {
         match tag {
             GlobalTag::Pop if self.globals.saved.is_empty() => Some(ParseFault::PopEmpty),
             GlobalTag::Push if self.globals.saved.len() >= MAX_PUSHES => Some(ParseFault::PushDeep),
@@ -90,9 +90,9 @@ impl State {
 
     /// The fault of a Main item.
     #[inline(always)]
-    fn judge_main(&self, tag: MainTag, flags: u32) -> Option<ParseFault> {
+    fn check_main(&self, tag: MainTag, flags: u32) -> Option<ParseFault> {
         match tag {
-            MainTag::Data(_) => self.judge_data(flags),
+            MainTag::Data(_) => self.check_data(flags),
             MainTag::Collection if self.collections >= MAX_COLLECTIONS => Some(
                 ParseFault::CollectionDeep,
             ),
@@ -106,7 +106,7 @@ impl State {
 
     /// The fault of a data item.
     #[inline(always)]
-    fn judge_data(&self, flags: u32) -> Option<ParseFault> {
+    fn check_data(&self, flags: u32) -> Option<ParseFault> {
         let globals = &self.globals.now;
         let constant = flags % 2 == 1;
         if globals.size > size_limit(constant) {
@@ -147,7 +147,7 @@ impl State {
 
     #[inline(always)]
     fn step_main(&mut self, tag: MainTag, flags: u32) -> Result<(), ParseFault> {
-        if let Some(fault) = self.judge_main(tag, flags) {
+        if let Some(fault) = self.check_main(tag, flags) {
             return Err(fault);
         }
         match self.take_main(tag, flags) {
@@ -158,7 +158,7 @@ impl State {
 
     #[inline(always)]
     fn step_global(&mut self, tag: GlobalTag, bytes: &[u8]) -> Result<(), ParseFault> {
-        if let Some(fault) = self.judge_global(tag, bytes) {
+        if let Some(fault) = self.check_global(tag, bytes) {
             return Err(fault);
         }
         match self.take_global(tag, bytes) {
@@ -169,7 +169,7 @@ impl State {
 
     #[inline(always)]
     fn step_local(&mut self, tag: LocalTag, usage: Usage) -> Result<(), ParseFault> {
-        if let Some(fault) = self.locals.judge(tag, usage) {
+        if let Some(fault) = self.locals.check(tag, usage) {
             return Err(fault);
         }
         match self.locals.take(tag, usage) {

@@ -3,7 +3,7 @@
 
 use crate::rattle::alloc::AllocError;
 
-/// Why a report is not read. Where several hold, the first is told.
+/// Why a report is not read. Where several hold, the first is reported.
 #[derive(Clone, Copy, Debug, PartialEq, Eq)]
 pub enum ExtractError {
     /// The report has no byte.

@@ -116,7 +116,7 @@ impl ControlEp {
     /// verdict is out of place: a `Stall` with the reason of a transfer that is stalled already, else with
     /// `WrongStage`, which stalls the transfer.
     pub fn verdict(&mut self, verdict: Verdict) -> EpAnswer {
-        self.judge(verdict)
+        self.apply_verdict(verdict)
     }
 
     /// Tells that the command at work is stored: the status packet of its transfer is due, if the transfer
@@ -196,16 +196,16 @@ impl ControlEp {
     }
 
     /// The answer of a verdict in this stage.
-    fn judge(&mut self, verdict: Verdict) -> EpAnswer {
+    fn apply_verdict(&mut self, verdict: Verdict) -> EpAnswer {
         match self.stage {
-            Stage::Taking(HostReport::Feature) => self.judge_report(verdict),
+            Stage::Taking(HostReport::Feature) => self.apply_report_verdict(verdict),
             Stage::Stalled(why) => EpAnswer::Stall(why),
             _ => self.stall(Why::WrongStage),
         }
     }
 
     /// The answer of a verdict on a feature report that is due.
-    fn judge_report(&mut self, verdict: Verdict) -> EpAnswer {
+    fn apply_report_verdict(&mut self, verdict: Verdict) -> EpAnswer {
         match verdict {
             Verdict::Done => {
                 self.stage = Stage::Status(Effect::Nothing);

@@ -6,7 +6,7 @@ use crate::parts::keymap_store::{SubmitRefusal, Taken};
 use crate::parts::layers::{Command, KeymapError};
 
 /// The command in a feature report's bytes after its ID, or the first of its numbers that is none.
-pub(crate) fn command_in(bytes: [u8; 5]) -> Result<Command, KeymapError> {
+pub(crate) fn command_of_bytes(bytes: [u8; 5]) -> Result<Command, KeymapError> {
     let [op, layer, key, low, high] = bytes;
     Command::read(op, layer, key, u16::from_le_bytes([low, high]))
 }

@@ -1,7 +1,7 @@
 // Exported from crates/keyboard/src/keyboard.rt by bin/export-rust. Edit that file instead.
 //! The keyboard and its calls.
 
-use crate::parts::keyboard::feature::{command_in, verdict_of};
+use crate::parts::keyboard::feature::{command_of_bytes, verdict_of};
 use crate::parts::keyboard::room::Room;
 use crate::parts::keyboard::shown::Shown;
 use crate::parts::control_ep::{ControlEp, Effect, EpAnswer, InAnswer, OutStep, Verdict, Why};
@@ -213,14 +213,14 @@ impl<D: Defaults> KeyboardOf<D> {
                 EpAnswer::Ack
             }
             OutStep::Offer(bytes) => {
-                let verdict = self.judge(bytes);
+                let verdict = self.check_command(bytes);
                 self.ep.verdict(verdict)
             }
         }
     }
 
     /// The verdict on a feature report, by its bytes after the ID.
-    fn judge(&mut self, bytes: [u8; 5]) -> Verdict {
+    fn check_command(&mut self, bytes: [u8; 5]) -> Verdict {
         if self.store.busy() {
             return Verdict::Busy;
         }
@@ -228,7 +228,7 @@ impl<D: Defaults> KeyboardOf<D> {
         if op == 0 {
             return self.select(layer, key);
         }
-        match command_in(bytes) {
+        match command_of_bytes(bytes) {
             Ok(command) => self.submit(&command),
             Err(error) => Verdict::Refused(Why::from(error)),
         }

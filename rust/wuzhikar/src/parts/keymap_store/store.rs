@@ -49,7 +49,7 @@ pub enum Job {
     Resting,
     /// The append of a command's record.
     Appending(CommandWord),
-    /// A turn to a page with the entries that differ from the default, which makes room for the
+    /// A compaction to a page with the entries that differ from the default, which makes room for the
     /// command; those below a place were offered.
     Turning { command: CommandWord, from: u16 },
 }
@@ -149,7 +149,7 @@ impl<D: Defaults> StoreOf<D> {
     /// Makes the one flash operation that the working command needs next, or none where no command
     /// works. The flash has to be the one that the store was mounted on.
     ///
-    /// With room the command's record is appended. Without room a turn comes first, whose copies are
+    /// With room the command's record is appended. Without room a compaction comes first, whose copies are
     /// the entries that differ from the default, by rising place, in format 2. `Failed` is answered
     /// where the flash answers a fault and the operation's slot or page does not read as intended, and
     /// only there. Each call that answers Working leaves one operation less to do, and Settled is the
@@ -179,7 +179,7 @@ impl<D: Defaults> StoreOf<D> {
         }
     }
 
-    /// Goes on with a turn; its commit makes room for the command.
+    /// Goes on with a compaction; its commit makes room for the command.
     fn turn<F: NorFlash>(&mut self, flash: &mut F, command: CommandWord, from: u16) -> Work {
         let from = offer_next(&mut self.log, &self.keymap, from);
         match self.log.step(flash) {
@@ -201,7 +201,7 @@ impl<D: Defaults> StoreOf<D> {
     }
 }
 
-/// Has a turn look for its next entry from this place on, where the job lies.
+/// Has a compaction look for its next entry from this place on, where the job lies.
 #[inline(always)]
 fn go_on(job: &mut Job, from: u16) {
     if let Job::Turning { from: place, .. } = job {
@@ -209,8 +209,8 @@ fn go_on(job: &mut Job, from: u16) {
     }
 }
 
-/// Offers a waiting turn the next entry at or after a place that differs from the default, or its
-/// seal where there is none, and says from which place on the next one is looked for.
+/// Offers a waiting compaction the next entry at or after a place that differs from the default, or its
+/// commit header where there is none, and says from which place on the next one is looked for.
 fn offer_next<D: Defaults>(log: &mut Log, keymap: &KeymapOf<D>, from: u16) -> u16 {
     if !log.wants() {
         return from;
@@ -232,14 +232,14 @@ fn offer_next<D: Defaults>(log: &mut Log, keymap: &KeymapOf<D>, from: u16) -> u1
 fn take_words<D: Defaults, F: NorFlash>(keymap: &mut KeymapOf<D>, log: &Log, flash: &F) {
     let format = log.format();
     for word in log.words(flash) {
-        if let Some(command) = command_in(format, word) {
+        if let Some(command) = command_by_format(format, word) {
             keymap.apply(command);
         }
     }
 }
 
 /// The command that a word stands for on a page of this format.
-fn command_in(format: Option<u8>, word: u32) -> Option<Command> {
+fn command_by_format(format: Option<u8>, word: u32) -> Option<Command> {
     match format {
         Some(1) => Command::from_format_1(word),
         _ => Command::from_word(word),

@@ -1,5 +1,5 @@
-use Rattle.debounce.proofs.Fed.{planes-stand}
+use Rattle.debounce.proofs.Fed.{planes-refine}
 use Rattle.debounce.proofs.debouncer.Debouncer.planes.Goals as goal
 
 pub returns : goal.returns
-returns c scans h plane key p l = rw c.self.invariant (planes-stand scans _ plane key (rw (← c.self.view_is) at h) p l)
+returns c scans h plane key p l = rw c.self.invariant (planes-refine scans _ plane key (rw (← c.self.view_is) at h) p l)

@@ -1,4 +1,4 @@
-use Rattle.debounce.specs.ties.Kept.{Kept}
+use Rattle.debounce.specs.representation.Kept.{Kept}
 use Rattle.debounce.proofs.Fed.{pressed-of}
 use Rattle.debounce.proofs.matrix.Matrix.pressed.Goals as goal
 

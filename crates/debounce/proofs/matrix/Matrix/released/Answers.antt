@@ -1,5 +1,5 @@
 use Rattle.std.proofs.Common.{arith}
-use Rattle.debounce.specs.ties.Kept.{Kept}
+use Rattle.debounce.specs.representation.Kept.{Kept}
 use Rattle.debounce.proofs.Fed.{released-of}
 use Rattle.debounce.proofs.matrix.Matrix.released.Goals as goal
 

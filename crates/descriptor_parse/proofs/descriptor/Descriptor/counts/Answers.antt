@@ -10,5 +10,5 @@ pub returns : goal.returns
 returns c =
     rw (← c.self.view_is, c.part.ensures, c.deref-2.ensures.value)
     (∥∥₁_elim c.self.invariant.1 (Prim.hlevel props) (λ k.
-    link_counts c.self.inside.reports.links.items c.self.inside.reports.ranges.items c.self.inside.reports.counts.items c.args.field c.start_of.result c.in-Some.link.now
-    (rw c.deref.ensures.value at c.in-Some.ensures.lookup.3.0) (rw c.deref.ensures.value at c.in-Some.ensures.lookup.1) (rw c.deref-3.ensures.value at c.start_of.ensures) k))
+    link_counts c.self.inside.reports.links.items c.self.inside.reports.ranges.items c.self.inside.reports.counts.items c.args.field c.first_range.result c.in-Some.link.now
+    (rw c.deref.ensures.value at c.in-Some.ensures.lookup.3.0) (rw c.deref.ensures.value at c.in-Some.ensures.lookup.1) (rw c.deref-3.ensures.value at c.first_range.ensures) k))

@@ -7,5 +7,5 @@ returns-in_default c = rw (← c.self.view_is) (no_link_part c.self.inside.repor
 pub returns : goal.returns
 returns c =
     rw (← c.self.view_is, c.part.ensures, c.deref-2.ensures.value)
-    (link_part c.self.inside.reports.links.items c.self.inside.reports.ranges.items c.args.field c.start_of.result c.in-Some.link.now
-    (rw c.deref.ensures.value at c.in-Some.ensures.lookup.3.0) (rw c.deref.ensures.value at c.in-Some.ensures.lookup.1) (rw c.deref-3.ensures.value at c.start_of.ensures))
+    (link_part c.self.inside.reports.links.items c.self.inside.reports.ranges.items c.args.field c.first_range.result c.in-Some.link.now
+    (rw c.deref.ensures.value at c.in-Some.ensures.lookup.3.0) (rw c.deref.ensures.value at c.in-Some.ensures.lookup.1) (rw c.deref-3.ensures.value at c.first_range.ensures))

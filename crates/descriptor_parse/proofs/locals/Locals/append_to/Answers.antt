@@ -1,7 +1,7 @@
 use Rattle.std.proofs.Common.{◌≡◌, ℕ, refl, sym, get_or}
 use Rattle.descriptor_parse.specs.declared.usage.Usage.TheVariants.{Short}
-use Rattle.descriptor_parse.specs.ties.LocalsStand.{range_on}
-use Rattle.descriptor_parse.specs.ties.CountsStand.{wrapped_counts}
+use Rattle.descriptor_parse.specs.representation.LocalsRefine.{range_on}
+use Rattle.descriptor_parse.specs.representation.CountsRefine.{wrapped_counts}
 use Rattle.descriptor_parse.proofs.CountLemmas.{ranged_step, counted_step}
 use Rattle.std.proofs.lemmas.List.{append-nil}
 use Rattle.descriptor_parse.proofs.locals.Locals.append_to.Goals as goal

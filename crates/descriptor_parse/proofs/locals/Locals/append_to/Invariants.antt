@@ -1,6 +1,6 @@
 use Rattle.std.proofs.Common.{◌≡◌, ◌++◌, map, take}
-use Rattle.descriptor_parse.specs.ties.LocalsStand.{range_on}
-use Rattle.descriptor_parse.specs.ties.CountsStand.{wrapped_counts}
+use Rattle.descriptor_parse.specs.representation.LocalsRefine.{range_on}
+use Rattle.descriptor_parse.specs.representation.CountsRefine.{wrapped_counts}
 use Rattle.descriptor_parse.proofs.CountLemmas.{last_count}
 use Rattle.descriptor_parse.proofs.locals.Locals.append_to.Given as goal
 

@@ -1,6 +1,6 @@
 use Rattle.std.proofs.Common.{refl}
-use Rattle.descriptor_parse.proofs.LocalLemmas.{stand_new}
+use Rattle.descriptor_parse.proofs.LocalLemmas.{refine_new}
 use Rattle.descriptor_parse.proofs.locals.Locals.new.Goals as goal
 
 pub returns : goal.returns
-returns c = stand_new _ refl c.new.ensures.items
+returns c = refine_new _ refl c.new.ensures.items

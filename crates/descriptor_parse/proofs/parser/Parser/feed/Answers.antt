@@ -5,7 +5,7 @@ use Rattle.descriptor_parse.proofs.parser.Parser.feed.Goals as goal
 
 pub invariant_of-self : goal.invariant_of-self
 invariant_of-self c = record {
-  stands = ∥∥₁_map c.args.self.now.stands (λ p. (
+  refines = ∥∥₁_map c.args.self.now.refines (λ p. (
     p.0 ++ c.args.piece.now,
     fed_on p.0 c.args.piece.now _ c.read.new.self _ c.in_default.is (λ i. omega (arith, c.type_inv.piece i)) p.1 (c.in-Ok.ensures.read p.0),
   ));
@@ -13,7 +13,7 @@ invariant_of-self c = record {
 
 pub invariant_of-self-in-Err : goal.invariant_of-self-in-Err
 invariant_of-self-in-Err c = record {
-  stands = ∥∥₁_map c.args.self.now.stands (λ p. (
+  refines = ∥∥₁_map c.args.self.now.refines (λ p. (
     p.0 ++ c.args.piece.now,
     fed_off p.0 c.args.piece.now _ c.read.new.self _ c.in-Err.error c.in_default.is (λ i. omega (arith, c.type_inv.piece i)) p.1 (c.in-Err.ensures.refused p.0),
   ));

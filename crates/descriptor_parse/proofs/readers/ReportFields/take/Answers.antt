@@ -1,7 +1,7 @@
 use Rattle.std.proofs.Common.{◌≡◌, ◌<◌, length, arith}
 use Rattle.std.proofs.Math.Logic.{∥∥₁_elim, ∥∥₁_map}
 use Rattle.std.proofs.Props.{props}
-use Rattle.descriptor_parse.proofs.ReaderLemmas.{left_none, left_more, next_is_next, link_stands, any_field}
+use Rattle.descriptor_parse.proofs.ReaderLemmas.{left_none, left_more, next_is_next, link_refines, any_field}
 use Rattle.descriptor_parse.proofs.readers.ReportFields.take.Goals as goal
 
 pub returns-in_default : goal.returns-in_default
@@ -14,25 +14,25 @@ pub between-ranges-requires-clause-order : goal.between-ranges-requires-clause-o
 between-ranges-requires-clause-order c =
     let s = c.self.inside in
     ∥∥₁_elim c.self.invariant.0 (Prim.hlevel props) (λ k.
-    (link_stands s.links.now s.ranges.now s.counts.now s.next c.start_of-start.result c.in-Some.link.now c.in-Some.ensures.lookup.3.0 c.in-Some.ensures.lookup.1 c.start_of-start.ensures k).order)
+    (link_refines s.links.now s.ranges.now s.counts.now s.next c.first_range-start.result c.in-Some.link.now c.in-Some.ensures.lookup.3.0 c.in-Some.ensures.lookup.1 c.first_range-start.ensures k).order)
 
 pub between-ranges-requires-clause-within : goal.between-ranges-requires-clause-within
 between-ranges-requires-clause-within c =
     let s = c.self.inside in
     ∥∥₁_elim c.self.invariant.0 (Prim.hlevel props) (λ k.
-    (link_stands s.links.now s.ranges.now s.counts.now s.next c.start_of-start.result c.in-Some.link.now c.in-Some.ensures.lookup.3.0 c.in-Some.ensures.lookup.1 c.start_of-start.ensures k).within)
+    (link_refines s.links.now s.ranges.now s.counts.now s.next c.first_range-start.result c.in-Some.link.now c.in-Some.ensures.lookup.3.0 c.in-Some.ensures.lookup.1 c.first_range-start.ensures k).within)
 
 pub between-counts-requires-clause-order : goal.between-counts-requires-clause-order
 between-counts-requires-clause-order c =
     let s = c.self.inside in
     ∥∥₁_elim c.self.invariant.0 (Prim.hlevel props) (λ k.
-    (link_stands s.links.now s.ranges.now s.counts.now s.next c.start_of-start.result c.in-Some.link.now c.in-Some.ensures.lookup.3.0 c.in-Some.ensures.lookup.1 c.start_of-start.ensures k).order)
+    (link_refines s.links.now s.ranges.now s.counts.now s.next c.first_range-start.result c.in-Some.link.now c.in-Some.ensures.lookup.3.0 c.in-Some.ensures.lookup.1 c.first_range-start.ensures k).order)
 
 pub between-counts-requires-clause-within : goal.between-counts-requires-clause-within
 between-counts-requires-clause-within c =
     let s = c.self.inside in
     ∥∥₁_elim c.self.invariant.0 (Prim.hlevel props) (λ k.
-    (link_stands s.links.now s.ranges.now s.counts.now s.next c.start_of-start.result c.in-Some.link.now c.in-Some.ensures.lookup.3.0 c.in-Some.ensures.lookup.1 c.start_of-start.ensures k).within_counts)
+    (link_refines s.links.now s.ranges.now s.counts.now s.next c.first_range-start.result c.in-Some.link.now c.in-Some.ensures.lookup.3.0 c.in-Some.ensures.lookup.1 c.first_range-start.ensures k).within_counts)
 
 pub bounds-self-inside-place : goal.bounds-self-inside-place
 bounds-self-inside-place c =
@@ -45,7 +45,7 @@ invariant_of-result c =
     let s = c.self.inside in
     record {
       counted = ∥∥₁_map c.self.invariant.0 (λ k. rw (c.between-ranges.ensures, c.between-counts.ensures)
-          (link_stands s.links.now s.ranges.now s.counts.now s.next c.start_of-start.result c.in-Some.link.now c.in-Some.ensures.lookup.3.0 c.in-Some.ensures.lookup.1 c.start_of-start.ensures k).counted);
+          (link_refines s.links.now s.ranges.now s.counts.now s.next c.first_range-start.result c.in-Some.link.now c.in-Some.ensures.lookup.3.0 c.in-Some.ensures.lookup.1 c.first_range-start.ensures k).counted);
     }
 
 pub invariant_of-self : goal.invariant_of-self
@@ -60,5 +60,5 @@ pub returns : goal.returns
 returns c =
     let s = c.self.inside in
     rw (← c.self.view_is)
-    (left_more s.kind s.id s.next c.start_of-start.result s.fields.now s.links.now s.ranges.now c.between-ranges.result.now any_field c.in-Some.link.now
-    c.self.invariant.1 c.self.invariant.2 c.in-Some.ensures.lookup.3.0 c.in-Some.ensures.lookup.1 c.start_of-start.ensures c.between-ranges.ensures)
+    (left_more s.kind s.id s.next c.first_range-start.result s.fields.now s.links.now s.ranges.now c.between-ranges.result.now any_field c.in-Some.link.now
+    c.self.invariant.1 c.self.invariant.2 c.in-Some.ensures.lookup.3.0 c.in-Some.ensures.lookup.1 c.first_range-start.ensures c.between-ranges.ensures)

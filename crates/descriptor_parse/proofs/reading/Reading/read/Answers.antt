@@ -2,7 +2,7 @@ use Rattle.std.proofs.Common.{ℕ, List, ◌++◌}
 use Rattle.std.proofs.lemmas.Result.{on_ok_weaker, IfErr-weaker}
 use Rattle.descriptor_parse.specs.declared.fault.ParseError.{ParseError}
 use Rattle.descriptor_parse.specs.Fed.{RefusesAll}
-use Rattle.descriptor_parse.specs.ties.Fed.{IsAt, IsReading}
+use Rattle.descriptor_parse.specs.representation.Fed.{IsAt, IsReading}
 use Rattle.descriptor_parse.proofs.ReadingLemmas.{none_of, no_bytes, at_fresh}
 use Rattle.descriptor_parse.proofs.reading.Reading.read.Goals as goal
 

@@ -3,7 +3,7 @@ use Rattle.std.proofs.lemmas.Result.{on_ok_weaker, IfErr-weaker, err_from_is_err
 use Rattle.descriptor_parse.specs.declared.fault.ParseError.{ParseError}
 use Rattle.descriptor_parse.specs.ItemViews.{item_view}
 use Rattle.descriptor_parse.specs.Fed.{RefusesAll}
-use Rattle.descriptor_parse.specs.ties.Fed.{IsAt, IsReading}
+use Rattle.descriptor_parse.specs.representation.Fed.{IsAt, IsReading}
 use Rattle.descriptor_parse.proofs.ReadingLemmas.{filled_up}
 use Rattle.descriptor_parse.proofs.reading.Reading.read_kept.Goals as goal
 

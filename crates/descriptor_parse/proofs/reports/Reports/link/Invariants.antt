@@ -1,6 +1,6 @@
 use Rattle.std.proofs.Common.{◌≡◌, ◌≤◌, length, map, drop}
 use Rattle.descriptor_parse.specs.declared.totals.IdReports.{IdReports}
-use Rattle.descriptor_parse.specs.ties.Linked.{ends_of, HaveNext, HasFirst}
+use Rattle.descriptor_parse.specs.representation.Linked.{ends_of, HaveNext, HasFirst}
 use Rattle.descriptor_parse.proofs.reports.Reports.link.Given as goal
 
 -- the fields from a place on are tied together

@@ -1,6 +1,6 @@
 use Rattle.std.proofs.Common.{refl, arith}
 use Rattle.descriptor_parse.specs.Globals.{signed}
-use Rattle.descriptor_parse.specs.ties.GlobalsOf.{globals_of}
+use Rattle.descriptor_parse.specs.representation.GlobalsOf.{globals_of}
 use Rattle.descriptor_parse.proofs.state.State.new.Goals as goal
 
 pub returns : goal.returns

@@ -3,8 +3,8 @@ use Rattle.std.proofs.lemmas.Result.{on_ok_weaker}
 use Rattle.descriptor_parse.specs.declared.tag.Tag.TheVariants.{Local}
 use Rattle.descriptor_parse.specs.Items.{ItemValue}
 use Rattle.descriptor_parse.specs.ItemViews.{item_view}
-use Rattle.descriptor_parse.specs.ties.StateStands.{StateStands, Takes}
-use Rattle.descriptor_parse.proofs.StateLemmas.{stand_skipped, judged_skipped, not_long}
+use Rattle.descriptor_parse.specs.representation.StateRefines.{StateRefines, Takes}
+use Rattle.descriptor_parse.proofs.StateLemmas.{refine_skipped, checked_skipped, not_long}
 use Rattle.descriptor_parse.proofs.state.State.step.Goals as goal
 
 pub unsigned-requires : goal.unsigned-requires
@@ -26,25 +26,25 @@ pub read_usage-requires-in-Local-clause-not_three : goal.read_usage-requires-in-
 read_usage-requires-in-Local-clause-not_three c = c.requires.not_three (not_long _ _ c.in-Local.ensures (λ s. cc))
 
 pub returns-in-Main-clause-taken : goal.returns-in-Main-clause-taken
-returns-in-Main-clause-taken c = on_ok_weaker {Q = (before : List ItemValue) → StateStands before c.args.self.now → length before ≤ 4096
+returns-in-Main-clause-taken c = on_ok_weaker {Q = (before : List ItemValue) → StateRefines before c.args.self.now → length before ≤ 4096
     → Takes before (item_view c.args.item.now) c.step_main.new.self} _ (λ took before s few.
     took before (item_view c.args.item.now) (sym c.in-Main.ensures) (sym c.unsigned.ensures) s few) c.step_main.ensures.taken
 
 pub returns-in-Global-clause-taken : goal.returns-in-Global-clause-taken
-returns-in-Global-clause-taken c = on_ok_weaker {Q = (before : List ItemValue) → StateStands before c.args.self.now → length before ≤ 4096
+returns-in-Global-clause-taken c = on_ok_weaker {Q = (before : List ItemValue) → StateRefines before c.args.self.now → length before ≤ 4096
     → Takes before (item_view c.args.item.now) c.step_global.new.self} _ (λ took before s few.
     took before (item_view c.args.item.now) (sym c.in-Global.ensures) refl s) c.step_global.ensures.taken
 
 pub returns-in-Local-Usage-clause-taken : goal.returns-in-Local-Usage-clause-taken
-returns-in-Local-Usage-clause-taken c = on_ok_weaker {Q = (before : List ItemValue) → StateStands before c.args.self.now → length before ≤ 4096
+returns-in-Local-Usage-clause-taken c = on_ok_weaker {Q = (before : List ItemValue) → StateRefines before c.args.self.now → length before ≤ 4096
     → Takes before (item_view c.args.item.now) c.step_local.new.self} _ (λ took before s few.
     took before (item_view c.args.item.now) (sym c.in-Local-Usage.ensures ∙ ap Local c.in-Local-Usage.field-0-is) (sym c.read_usage.ensures) s) c.step_local.ensures.taken
 
 pub returns-in-Local-clause-taken : goal.returns-in-Local-clause-taken
-returns-in-Local-clause-taken c = on_ok_weaker {Q = (before : List ItemValue) → StateStands before c.args.self.now → length before ≤ 4096
+returns-in-Local-clause-taken c = on_ok_weaker {Q = (before : List ItemValue) → StateRefines before c.args.self.now → length before ≤ 4096
     → Takes before (item_view c.args.item.now) c.step_local-in-Local.new.self} _ (λ took before s few.
     took before (item_view c.args.item.now) (sym c.in-Local.ensures) (sym c.read_usage-in-Local.ensures) s) c.step_local-in-Local.ensures.taken
 
 pub returns-in-Skipped-clause-taken : goal.returns-in-Skipped-clause-taken
 returns-in-Skipped-clause-taken c = λ before s few.
-    record { clean = judged_skipped before _ (sym c.in-Skipped.ensures); stands = stand_skipped before _ _ (sym c.in-Skipped.ensures) s }
+    record { clean = checked_skipped before _ (sym c.in-Skipped.ensures); refines = refine_skipped before _ _ (sym c.in-Skipped.ensures) s }

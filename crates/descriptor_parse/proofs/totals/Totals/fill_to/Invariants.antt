@@ -1,5 +1,5 @@
 use Rattle.std.proofs.Common.{◌≡◌, ℕ, ◌+◌, ◌-◌, get_or, length}
-use Rattle.descriptor_parse.specs.ties.Totals.{no_reports}
+use Rattle.descriptor_parse.specs.representation.Totals.{no_reports}
 use Rattle.descriptor_parse.proofs.totals.Totals.fill_to.Given as goal
 
 abbrev pub invariant-loop-self : goal.invariant-loop-self

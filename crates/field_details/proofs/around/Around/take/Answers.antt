@@ -1,6 +1,6 @@
 use Rattle.std.proofs.Common.{◌≡◌, ◌<◌, ◌≤◌, ◌-◌, suc, ◌∙◌, ap, length, take, reverse, arith, inl, inr}
 use Rattle.std.proofs.lemmas.Option.{slice_get_cases}
-use Rattle.field_details.specs.ties.Asked.{all_outwards}
+use Rattle.field_details.specs.representation.Asked.{all_outwards}
 use Rattle.field_details.proofs.OutwardLemmas.{turned_more, some_left}
 use Rattle.field_details.proofs.around.Around.take.Goals as goal
 

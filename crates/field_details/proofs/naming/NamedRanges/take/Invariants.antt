@@ -1,5 +1,5 @@
 use Rattle.std.proofs.Common.{◌≡◌}
-use Rattle.field_details.specs.ties.Asked.{names_left, AreShort}
+use Rattle.field_details.specs.representation.Asked.{names_left, AreShort}
 use Rattle.field_details.proofs.naming.NamedRanges.take.Given as goal
 
 -- what is left to be given stays the same

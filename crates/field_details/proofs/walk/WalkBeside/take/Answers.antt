@@ -3,7 +3,7 @@ use Rattle.descriptor_parse.specs.ItemViews.{item_view}
 use Rattle.descriptor_parse.specs.Tags.{tag_of, is_main}
 use Rattle.descriptor_parse.specs.declared.tag.Tag.TheVariants.{Main, Global, Local, Skipped}
 use Rattle.field_details.specs.Collections.{is_usage}
-use Rattle.field_details.proofs.WalkLemmas.{stand_extents, long_skipped, on_ok}
+use Rattle.field_details.proofs.WalkLemmas.{refine_extents, long_skipped, on_ok}
 use Rattle.field_details.proofs.walk.WalkBeside.take.Goals as goal
 
 pub unsigned-requires : goal.unsigned-requires
@@ -23,7 +23,7 @@ returns-in-Main c =
 pub returns-in-Global : goal.returns-in-Global
 returns-in-Global c =
     let e : tag_of c.args.item.now.prefix ≡ Global c.in-Global.tag = sym c.tag.ensures ∙ c.in-Global.is in
-    on_ok c.take_global.result (λ taken items st s. stand_extents items (item_view c.args.item.now) c.args.self.now _ (ap is_main e) (ap is_usage e)
+    on_ok c.take_global.result (λ taken items st s. refine_extents items (item_view c.args.item.now) c.args.self.now _ (ap is_main e) (ap is_usage e)
     (taken items (item_view c.args.item.now) e s.extents) refl refl refl s) c.take_global.ensures
 
 pub returns-in-Local : goal.returns-in-Local
@@ -32,5 +32,5 @@ returns-in-Local c = λ items st s. c.take_local.ensures items (item_view c.args
 pub returns-in-Skipped : goal.returns-in-Skipped
 returns-in-Skipped c =
     let e : tag_of c.args.item.now.prefix ≡ Skipped = sym c.tag.ensures ∙ c.in-Skipped.is in
-    λ items st s. stand_extents items (item_view c.args.item.now) c.args.self.now _ (ap is_main e) (ap is_usage e)
+    λ items st s. refine_extents items (item_view c.args.item.now) c.args.self.now _ (ap is_main e) (ap is_usage e)
     (c.take_skipped.ensures items (item_view c.args.item.now) e refl refl s.extents) refl refl refl s

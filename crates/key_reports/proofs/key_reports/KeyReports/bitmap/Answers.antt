@@ -1,5 +1,5 @@
 use Rattle.std.proofs.Common.{◌∙◌}
-use Rattle.reports.proofs.LayoutLaws.{bitmap-layout}
+use Rattle.reports.proofs.LayoutTheorems.{bitmap-layout}
 use Rattle.key_reports.specs.Past.{wanted_after, keys_after}
 use Rattle.key_reports.proofs.key_reports.KeyReports.bitmap.Goals as goal
 use Rattle.std.proofs.Common.{rules}

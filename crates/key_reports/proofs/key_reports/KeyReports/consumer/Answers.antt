@@ -1,5 +1,5 @@
 use Rattle.std.proofs.Common.{◌∙◌}
-use Rattle.reports.proofs.LayoutLaws.{consumer-layout}
+use Rattle.reports.proofs.LayoutTheorems.{consumer-layout}
 use Rattle.key_reports.specs.Past.{wanted_after, consumer_after}
 use Rattle.key_reports.proofs.key_reports.KeyReports.consumer.Goals as goal
 

@@ -1,18 +1,18 @@
 use Rattle.reports.specs.Calls.{polled}
 use Rattle.reports.proofs.Made.{is_made, same_made}
 use Rattle.key_reports.specs.Past.{wanted_after, poller_calls}
-use Rattle.key_reports.proofs.Standing.{stands-asked, answer_is}
+use Rattle.key_reports.proofs.Standing.{refines-asked, answer_is}
 use Rattle.key_reports.proofs.key_reports.KeyReports.poll.Goals as goal
 
-pub returns-clause-stands : goal.returns-clause-stands
-returns-clause-stands c past s =
+pub returns-clause-refines : goal.returns-clause-refines
+returns-clause-refines c past s =
     let h = rw (← c.self.view_is) at s in
-    stands-asked past (polled c.args.protocol _) (record { debouncer = c.self.inside.matrix; held = c.self.inside.held; poller = c.self.inside.poller }) c.poll_made.new.self h
-    (λ calls p. c.poll_made.ensures.stands calls (c.make_for.ensures.stands calls p))
+    refines-asked past (polled c.args.protocol _) (record { debouncer = c.self.inside.matrix; held = c.self.inside.held; poller = c.self.inside.poller }) c.poll_made.new.self h
+    (λ calls p. c.poll_made.ensures.refines calls (c.make_for.ensures.refines calls p))
     (same_made _ _ _ c.poll_made.ensures.made (is_made c.args.protocol _ _ (c.make_for.ensures.made past h.held h.made)))
 
 pub returns-clause-answer : goal.returns-clause-answer
 returns-clause-answer c past s =
     let h = rw (← c.self.view_is) at s in
     answer_is past c.args.protocol _
-    (c.poll_made.ensures.answer (poller_calls past) (wanted_after past) (c.make_for.ensures.made past h.held h.made) (c.make_for.ensures.stands (poller_calls past) h.poller))
+    (c.poll_made.ensures.answer (poller_calls past) (wanted_after past) (c.make_for.ensures.made past h.held h.made) (c.make_for.ensures.refines (poller_calls past) h.poller))

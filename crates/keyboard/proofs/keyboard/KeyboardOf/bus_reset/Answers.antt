@@ -1,9 +1,9 @@
 use Rattle.keyboard.specs.Keys.{key_calls}
 use Rattle.keyboard.specs.Endpoint.{ep_calls}
-use Rattle.keyboard.proofs.Standing.{stands_reset}
+use Rattle.keyboard.proofs.Standing.{refines_reset}
 use Rattle.keyboard.proofs.keyboard.KeyboardOf.bus_reset.Goals as goal
 
-pub returns-clause-stands : goal.returns-clause-stands
-returns-clause-stands g c start past s =
+pub returns-clause-refines : goal.returns-clause-refines
+returns-clause-refines g c start past s =
     let t = rw (← c.self.view_is) at s in
-    stands_reset g.D.Defaults.defaults start past c.reset.new.self c.bus_reset.new.self _ t (c.reset.ensures.stands (ep_calls g.D.Defaults.defaults start past) t.now.ep) (c.bus_reset.ensures (key_calls g.D.Defaults.defaults start past) t.now.keys)
+    refines_reset g.D.Defaults.defaults start past c.reset.new.self c.bus_reset.new.self _ t (c.reset.ensures.refines (ep_calls g.D.Defaults.defaults start past) t.now.ep) (c.bus_reset.ensures (key_calls g.D.Defaults.defaults start past) t.now.keys)

@@ -1,15 +1,15 @@
 use Rattle.std.proofs.Common.{ap, sym, subst, ◌∙◌}
-use Rattle.keymap_store.specs.ties.Store.{Mirrors}
+use Rattle.keymap_store.specs.representation.Store.{Mirrors}
 use Rattle.keymap_store.specs.Submits.{Submits}
-use Rattle.keyboard.specs.ties.Value.{KeyboardValue}
-use Rattle.keyboard.proofs.Offering.{judged_submitted}
+use Rattle.keyboard.specs.representation.Value.{KeyboardValue}
+use Rattle.keyboard.proofs.Offering.{checked_submitted}
 use Rattle.keyboard.proofs.keyboard.KeyboardOf.submit.Goals as goal
 
 pub returns : goal.returns
 returns g c image bytes h n r =
     let held : Mirrors g.D.Defaults.defaults image c.self.inside.store = subst (λ (k : KeyboardValue). Mirrors g.D.Defaults.defaults image k.store) (sym c.self.view_is) h in
     rw c.verdict_of.ensures
-    (judged_submitted g.D.Defaults.defaults image bytes c.args.command.now c.submit.result c.args.self.now _ n r (record {
+    (checked_submitted g.D.Defaults.defaults image bytes c.args.command.now c.submit.result c.args.self.now _ n r (record {
       submits = subst (λ (k : KeyboardValue). Submits g.D.Defaults.defaults image k.store.job c.args.command.now c.submit.result) c.self.view_is (c.submit.ensures.submits image held);
       runs_on = c.submit.ensures.mirrors image held;
       only = ap (λ (k : KeyboardValue). record k { store = c.submit.new.self }) c.self.view_is;

@@ -14,7 +14,7 @@ returns-in-Committed-clause-leaves g c =
     let made = c.in-Committed.is in
     let commits = c.step.ensures.committed made in
     rw (← c.self.view_is) (record {
-      mirrors = appended g.D.Defaults.defaults old _ c.args.command c.step.result new c.step.new.self c.apply.new.self m j made c.step.ensures.ends commits (rw c.command.ensures at c.apply.ensures.stands);
+      mirrors = appended g.D.Defaults.defaults old _ c.args.command c.step.result new c.step.new.self c.apply.new.self m j made c.step.ensures.ends commits (rw c.command.ensures at c.apply.ensures.refines);
       works = record { command = c.args.command; was = rw j refl; done = refl; changes = λ entries h. rw c.command.ensures at (c.apply.ensures.entries entries h) };
       attempts = append_settled g.D.Defaults.defaults old _ c.args.command c.step.result new m j c.step.ensures.attempts made;
       writes = append_writes g.D.Defaults.defaults old _ c.args.command c.step.result new c.step.new.self m j made c.step.ensures.ends commits;

@@ -22,7 +22,7 @@ step-requires g c =
     let old = g.F.NorFlash.image c.args.flash.now in
     let m = rw (← c.self.view_is) at c.requires.mirrors in
     let j = turning g.D.Defaults.defaults old _ c.args.command c.args.from m (rw (← c.self.view_is) at c.requires.job) in
-    (c.offer_next-from.ensures.stands old (entries_of g.D.Defaults.defaults old) m.keymap_is m.log_is j.offers).describes
+    (c.offer_next-from.ensures.refines old (entries_of g.D.Defaults.defaults old) m.keymap_is m.log_is j.offers).describes
 
 pub begin_append-requires-clause-room : goal.begin_append-requires-clause-room
 begin_append-requires-clause-room g c =
@@ -30,7 +30,7 @@ begin_append-requires-clause-room g c =
     let new = g.F.NorFlash.image c.step.new.flash in
     let m = rw (← c.self.view_is) at c.requires.mirrors in
     let j = turning g.D.Defaults.defaults old _ c.args.command c.args.from m (rw (← c.self.view_is) at c.requires.job) in
-    let s = c.offer_next-from.ensures.stands old (entries_of g.D.Defaults.defaults old) m.keymap_is m.log_is j.offers in
+    let s = c.offer_next-from.ensures.refines old (entries_of g.D.Defaults.defaults old) m.keymap_is m.log_is j.offers in
     turn_room g.D.Defaults.defaults old _ c.offer_next-from.result c.offer_next-from.new.log new c.step.new.self m s.offers c.step.ensures.ends.describes (c.step.ensures.committed c.in-Committed.is)
 
 pub unreachable-requires : goal.unreachable-requires
@@ -39,7 +39,7 @@ unreachable-requires g c =
     let new = g.F.NorFlash.image c.step.new.flash in
     let m = rw (← c.self.view_is) at c.requires.mirrors in
     let j = turning g.D.Defaults.defaults old _ c.args.command c.args.from m (rw (← c.self.view_is) at c.requires.job) in
-    let s = c.offer_next-from.ensures.stands old (entries_of g.D.Defaults.defaults old) m.keymap_is m.log_is j.offers in
+    let s = c.offer_next-from.ensures.refines old (entries_of g.D.Defaults.defaults old) m.keymap_is m.log_is j.offers in
     not_idle old c.offer_next-from.new.log c.step.result new c.step.new.self c.in-Idle.is s.pending c.step.ensures.ends
 
 pub returns-in-Moved-clause-leaves : goal.returns-in-Moved-clause-leaves
@@ -50,7 +50,7 @@ returns-in-Moved-clause-leaves g c =
     let e = rw (← c.self.view_is) at c.requires.job in
     let onward = c.go_on.ensures c.args.command c.args.from (rw (← c.self.view_is) at c.requires.job) in
     let j = turning g.D.Defaults.defaults old _ c.args.command c.args.from m e in
-    let s = c.offer_next-from.ensures.stands old (entries_of g.D.Defaults.defaults old) m.keymap_is m.log_is j.offers in
+    let s = c.offer_next-from.ensures.refines old (entries_of g.D.Defaults.defaults old) m.keymap_is m.log_is j.offers in
     let log = c.offer_next-from.new.log in
     let from = c.offer_next-from.result in
     let made = c.in-Moved.is in
@@ -73,7 +73,7 @@ returns-in-Committed-clause-leaves g c =
     let m = rw (← c.self.view_is) at c.requires.mirrors in
     let e = rw (← c.self.view_is) at c.requires.job in
     let j = turning g.D.Defaults.defaults old _ c.args.command c.args.from m e in
-    let s = c.offer_next-from.ensures.stands old (entries_of g.D.Defaults.defaults old) m.keymap_is m.log_is j.offers in
+    let s = c.offer_next-from.ensures.refines old (entries_of g.D.Defaults.defaults old) m.keymap_is m.log_is j.offers in
     let log = c.offer_next-from.new.log in
     let from = c.offer_next-from.result in
     let made = c.in-Committed.is in
@@ -96,7 +96,7 @@ returns-in-Failed-clause-leaves g c =
     let m = rw (← c.self.view_is) at c.requires.mirrors in
     let e = rw (← c.self.view_is) at c.requires.job in
     let j = turning g.D.Defaults.defaults old _ c.args.command c.args.from m e in
-    let s = c.offer_next-from.ensures.stands old (entries_of g.D.Defaults.defaults old) m.keymap_is m.log_is j.offers in
+    let s = c.offer_next-from.ensures.refines old (entries_of g.D.Defaults.defaults old) m.keymap_is m.log_is j.offers in
     let log = c.offer_next-from.new.log in
     let from = c.offer_next-from.result in
     let fails = c.in-Failed.is in
@@ -118,7 +118,7 @@ returns-in-Moved-clause-fewer g c working =
     let e = rw (← c.self.view_is) at c.requires.job in
     let onward = c.go_on.ensures c.args.command c.args.from (rw (← c.self.view_is) at c.requires.job) in
     let j = turning g.D.Defaults.defaults old _ c.args.command c.args.from m e in
-    let s = c.offer_next-from.ensures.stands old (entries_of g.D.Defaults.defaults old) m.keymap_is m.log_is j.offers in
+    let s = c.offer_next-from.ensures.refines old (entries_of g.D.Defaults.defaults old) m.keymap_is m.log_is j.offers in
     let moves = c.step.ensures.moved c.in-Moved.is in
     rw (← c.self.view_is, onward) (moved_left g.D.Defaults.defaults c.offer_next-from.result old c.offer_next-from.new.log c.step.result new c.step.new.self c.offer_next-from.ensures.within s.describes.task_is s.offers c.in-Moved.is c.step.ensures.ends moves.keeps
     ∙ ap (turn_left g.D.Defaults.defaults old) c.offer_next-from.ensures.target ∙ sym (turning_left g.D.Defaults.defaults old _ c.args.command c.args.from m e))
@@ -130,7 +130,7 @@ returns-in-Committed-clause-fewer g c working =
     let m = rw (← c.self.view_is) at c.requires.mirrors in
     let e = rw (← c.self.view_is) at c.requires.job in
     let j = turning g.D.Defaults.defaults old _ c.args.command c.args.from m e in
-    let s = c.offer_next-from.ensures.stands old (entries_of g.D.Defaults.defaults old) m.keymap_is m.log_is j.offers in
+    let s = c.offer_next-from.ensures.refines old (entries_of g.D.Defaults.defaults old) m.keymap_is m.log_is j.offers in
     rw (← c.self.view_is) (sym (committed_left g.D.Defaults.defaults c.offer_next-from.result old c.offer_next-from.new.log c.step.result new c.step.new.self s.describes.task_is s.offers c.in-Committed.is c.step.ensures.ends)
     ∙ ap (turn_left g.D.Defaults.defaults old) c.offer_next-from.ensures.target ∙ sym (turning_left g.D.Defaults.defaults old _ c.args.command c.args.from m e))
 
@@ -139,7 +139,7 @@ returns-in-Moved-clause-operated g c operation e =
     let old = g.F.NorFlash.image c.args.flash.now in
     let m = rw (← c.self.view_is) at c.requires.mirrors in
     let j = turning g.D.Defaults.defaults old _ c.args.command c.args.from m (rw (← c.self.view_is) at c.requires.job) in
-    let s = c.offer_next-from.ensures.stands old (entries_of g.D.Defaults.defaults old) m.keymap_is m.log_is j.offers in
+    let s = c.offer_next-from.ensures.refines old (entries_of g.D.Defaults.defaults old) m.keymap_is m.log_is j.offers in
     c.step.ensures.operated operation (turn_asks g.D.Defaults.defaults old _ c.offer_next-from.new.log c.offer_next-from.result operation m s (rw (← c.self.view_is) at e))
 
 pub returns-in-Committed-clause-operated : goal.returns-in-Committed-clause-operated
@@ -147,7 +147,7 @@ returns-in-Committed-clause-operated g c operation e =
     let old = g.F.NorFlash.image c.args.flash.now in
     let m = rw (← c.self.view_is) at c.requires.mirrors in
     let j = turning g.D.Defaults.defaults old _ c.args.command c.args.from m (rw (← c.self.view_is) at c.requires.job) in
-    let s = c.offer_next-from.ensures.stands old (entries_of g.D.Defaults.defaults old) m.keymap_is m.log_is j.offers in
+    let s = c.offer_next-from.ensures.refines old (entries_of g.D.Defaults.defaults old) m.keymap_is m.log_is j.offers in
     c.step.ensures.operated operation (turn_asks g.D.Defaults.defaults old _ c.offer_next-from.new.log c.offer_next-from.result operation m s (rw (← c.self.view_is) at e))
 
 pub returns-in-Failed-clause-operated : goal.returns-in-Failed-clause-operated
@@ -155,7 +155,7 @@ returns-in-Failed-clause-operated g c operation e =
     let old = g.F.NorFlash.image c.args.flash.now in
     let m = rw (← c.self.view_is) at c.requires.mirrors in
     let j = turning g.D.Defaults.defaults old _ c.args.command c.args.from m (rw (← c.self.view_is) at c.requires.job) in
-    let s = c.offer_next-from.ensures.stands old (entries_of g.D.Defaults.defaults old) m.keymap_is m.log_is j.offers in
+    let s = c.offer_next-from.ensures.refines old (entries_of g.D.Defaults.defaults old) m.keymap_is m.log_is j.offers in
     c.step.ensures.operated operation (turn_asks g.D.Defaults.defaults old _ c.offer_next-from.new.log c.offer_next-from.result operation m s (rw (← c.self.view_is) at e))
 
 pub returns-in-Moved-clause-order : goal.returns-in-Moved-clause-order
@@ -166,7 +166,7 @@ returns-in-Moved-clause-order g c =
     let e = rw (← c.self.view_is) at c.requires.job in
     let onward = c.go_on.ensures c.args.command c.args.from (rw (← c.self.view_is) at c.requires.job) in
     let j = turning g.D.Defaults.defaults old _ c.args.command c.args.from m e in
-    let s = c.offer_next-from.ensures.stands old (entries_of g.D.Defaults.defaults old) m.keymap_is m.log_is j.offers in
+    let s = c.offer_next-from.ensures.refines old (entries_of g.D.Defaults.defaults old) m.keymap_is m.log_is j.offers in
     let moves = c.step.ensures.moved c.in-Moved.is in
     let log = c.offer_next-from.new.log in
     let from = c.offer_next-from.result in
@@ -180,7 +180,7 @@ returns-in-Committed-clause-order g c =
     let m = rw (← c.self.view_is) at c.requires.mirrors in
     let e = rw (← c.self.view_is) at c.requires.job in
     let j = turning g.D.Defaults.defaults old _ c.args.command c.args.from m e in
-    let s = c.offer_next-from.ensures.stands old (entries_of g.D.Defaults.defaults old) m.keymap_is m.log_is j.offers in
+    let s = c.offer_next-from.ensures.refines old (entries_of g.D.Defaults.defaults old) m.keymap_is m.log_is j.offers in
     rw (← c.self.view_is) (committed_order g.D.Defaults.defaults c.offer_next-from.result c.args.from old _ c.args.command c.offer_next-from.new.log c.step.result new c.step.new.self c.begin_append.new.self _ m e c.offer_next-from.ensures.target
     s.describes.task_is s.offers c.in-Committed.is c.step.ensures.ends c.begin_append.ensures.pending)
 
@@ -192,7 +192,7 @@ returns-in-Moved-clause-faultless g c f =
     let old = g.F.NorFlash.image c.args.flash.now in
     let m = rw (← c.self.view_is) at c.requires.mirrors in
     let j = turning g.D.Defaults.defaults old _ c.args.command c.args.from m (rw (← c.self.view_is) at c.requires.job) in
-    let s = c.offer_next-from.ensures.stands old (entries_of g.D.Defaults.defaults old) m.keymap_is m.log_is j.offers in
+    let s = c.offer_next-from.ensures.refines old (entries_of g.D.Defaults.defaults old) m.keymap_is m.log_is j.offers in
     let short = offered_short g.D.Defaults.defaults (entries_of g.D.Defaults.defaults old) c.offer_next-from.result old c.offer_next-from.new.log.task c.offer_next-from.ensures.within s.offers in
     ((c.step.ensures.faultless f short).0, λ e. cc)
 
@@ -201,7 +201,7 @@ returns-in-Committed-clause-faultless g c f =
     let old = g.F.NorFlash.image c.args.flash.now in
     let m = rw (← c.self.view_is) at c.requires.mirrors in
     let j = turning g.D.Defaults.defaults old _ c.args.command c.args.from m (rw (← c.self.view_is) at c.requires.job) in
-    let s = c.offer_next-from.ensures.stands old (entries_of g.D.Defaults.defaults old) m.keymap_is m.log_is j.offers in
+    let s = c.offer_next-from.ensures.refines old (entries_of g.D.Defaults.defaults old) m.keymap_is m.log_is j.offers in
     let short = offered_short g.D.Defaults.defaults (entries_of g.D.Defaults.defaults old) c.offer_next-from.result old c.offer_next-from.new.log.task c.offer_next-from.ensures.within s.offers in
     ((c.step.ensures.faultless f short).0, λ e. cc)
 
@@ -210,6 +210,6 @@ returns-in-Failed-clause-faultless g c f =
     let old = g.F.NorFlash.image c.args.flash.now in
     let m = rw (← c.self.view_is) at c.requires.mirrors in
     let j = turning g.D.Defaults.defaults old _ c.args.command c.args.from m (rw (← c.self.view_is) at c.requires.job) in
-    let s = c.offer_next-from.ensures.stands old (entries_of g.D.Defaults.defaults old) m.keymap_is m.log_is j.offers in
+    let s = c.offer_next-from.ensures.refines old (entries_of g.D.Defaults.defaults old) m.keymap_is m.log_is j.offers in
     let short = offered_short g.D.Defaults.defaults (entries_of g.D.Defaults.defaults old) c.offer_next-from.result old c.offer_next-from.new.log.task c.offer_next-from.ensures.within s.offers in
     absurd ((c.step.ensures.faultless f short).1 c.in-Failed.is)

@@ -1,6 +1,6 @@
 use Rattle.std.proofs.Common.{◌∙◌}
 use Rattle.layers.specs.Held.{code}
-use Rattle.layers.specs.ties.HeldStands.{kept}
+use Rattle.layers.specs.representation.HeldRelation.{kept}
 use Rattle.layers.proofs.HeldKeys.{is_active-same}
 use Rattle.layers.proofs.held.Held.active.Goals as goal
 

@@ -1,6 +1,6 @@
 use Rattle.std.proofs.Common.{refl}
 use Rattle.layers.proofs.BitSets.{has_bit-zeros}
-use Rattle.layers.proofs.HeldKeys.{kept-clear, stands_new}
+use Rattle.layers.proofs.HeldKeys.{kept-clear, refines_new}
 use Rattle.layers.proofs.NamedUsages.{named_none}
 use Rattle.layers.proofs.held.Held.clear.Goals as goal
 
@@ -12,5 +12,5 @@ invariant_of-self c = (
   λ e. named_none _ _ _ (λ key. kept-clear _ _ key (has_bit-zeros 32 3 key)) c.clear.ensures.no_keys c.clear.ensures.no_consumer c.no_layers-self-inside.ensures.none,
 )
 
-pub returns-clause-stands : goal.returns-clause-stands
-returns-clause-stands c = stands_new _ (λ key. has_bit-zeros 32 3 key)
+pub returns-clause-refines : goal.returns-clause-refines
+returns-clause-refines c = refines_new _ (λ key. has_bit-zeros 32 3 key)

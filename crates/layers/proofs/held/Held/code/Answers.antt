@@ -1,5 +1,5 @@
 use Rattle.std.proofs.Common.{◌≡◌, true, is_some, sym, ◌∙◌}
-use Rattle.layers.specs.ties.HeldStands.{kept}
+use Rattle.layers.specs.representation.HeldRelation.{kept}
 use Rattle.layers.proofs.HeldKeys.{kept-some_is, kept-none_is}
 use Rattle.layers.proofs.held.Held.code.Goals as goal
 

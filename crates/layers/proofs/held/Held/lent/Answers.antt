@@ -1,7 +1,7 @@
 use Rattle.std.proofs.Common.{◌≡◌, true, ◌∙◌}
 use Rattle.layers.specs.Codes.{names_key_usage, names_consumer}
 use Rattle.layers.specs.Held.{code}
-use Rattle.layers.specs.ties.HeldStands.{kept}
+use Rattle.layers.specs.representation.HeldRelation.{kept}
 use Rattle.layers.proofs.HeldKeys.{any_has-same}
 use Rattle.layers.proofs.held.Held.lent.Goals as goal
 

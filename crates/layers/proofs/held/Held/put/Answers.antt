@@ -1,6 +1,6 @@
 use Rattle.std.proofs.Common.{rules, ◌≡◌, ◌<◌, false, is_some, length}
 use Rattle.layers.specs.Held.{resolved}
-use Rattle.layers.specs.ties.HeldStands.{kept}
+use Rattle.layers.specs.representation.HeldRelation.{kept}
 use Rattle.layers.specs.Keymaps.{code_at}
 use Rattle.layers.proofs.HeldKeys.{kept-put}
 use Rattle.layers.proofs.NamedUsages.{named_put}

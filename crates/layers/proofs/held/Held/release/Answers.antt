@@ -1,7 +1,7 @@
-use Rattle.layers.proofs.HeldKeys.{stands_released}
+use Rattle.layers.proofs.HeldKeys.{refines_released}
 use Rattle.layers.proofs.held.Held.release.Goals as goal
 
 pub returns : goal.returns
 returns c past h =
     rw (← c.number.ensures.value, ← c.from.ensures)
-    (stands_released past c.self.inside.codes c.self.inside.held c.remove.new.words c.self.inside.named _ c.from.result c.remove.ensures (rw c.self.view_is h))
+    (refines_released past c.self.inside.codes c.self.inside.held c.remove.new.words c.self.inside.named _ c.from.result c.remove.ensures (rw c.self.view_is h))

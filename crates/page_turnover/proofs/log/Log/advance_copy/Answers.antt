@@ -1,4 +1,4 @@
-use Rattle.page_turnover.specs.ties.Value.{target_value}
+use Rattle.page_turnover.specs.representation.Value.{target_value}
 use Rattle.page_turnover.proofs.Planning.{copy_advances, copy_erased}
 use Rattle.page_turnover.proofs.log.Log.advance_copy.Goals as goal
 

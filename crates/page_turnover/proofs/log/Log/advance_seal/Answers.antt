@@ -1,4 +1,4 @@
-use Rattle.page_turnover.specs.ties.Value.{target_value}
+use Rattle.page_turnover.specs.representation.Value.{target_value}
 use Rattle.page_turnover.proofs.Endings.{seq_is}
 use Rattle.page_turnover.proofs.Planning.{seal_advances, seal_erased}
 use Rattle.page_turnover.proofs.log.Log.advance_seal.Goals as goal

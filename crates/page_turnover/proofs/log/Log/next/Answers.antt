@@ -1,7 +1,7 @@
 use Rattle.std.proofs.Common.{◌≡◌, refl}
 use Rattle.page_turnover.specs.Turn.{next_seq}
 use Rattle.page_turnover.specs.Value.{Seal}
-use Rattle.page_turnover.specs.ties.Value.{target_value}
+use Rattle.page_turnover.specs.representation.Value.{target_value}
 use Rattle.page_turnover.proofs.Endings.{seq_is, seq_small, under_way}
 use Rattle.page_turnover.proofs.log.Log.next.Goals as goal
 

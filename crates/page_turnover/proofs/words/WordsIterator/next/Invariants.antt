@@ -1,7 +1,7 @@
 use Rattle.std.proofs.Common.{◌≡◌, ◌-◌, ◌<◌}
 use Rattle.flash_model.specs.Image.{page_count}
-use Rattle.page_turnover.specs.ties.Words.{words_after}
-use Rattle.page_turnover.specs.ties.Blocks.{AreGoodWithin}
+use Rattle.page_turnover.specs.representation.Words.{words_after}
+use Rattle.page_turnover.specs.representation.Blocks.{AreGoodWithin}
 use Rattle.page_turnover.proofs.words.WordsIterator.next.Given as goal
 
 pub record SoFar (place inside within left : Type 0) : Type 0 where

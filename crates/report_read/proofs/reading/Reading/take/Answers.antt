@@ -1,6 +1,6 @@
 use Rattle.std.proofs.Common.{drop, arith}
 use Rattle.std.proofs.lemmas.List.Elements.{All-drop}
-use Rattle.report_read.specs.ties.Lanes.{IsLane}
+use Rattle.report_read.specs.representation.Lanes.{IsLane}
 use Rattle.report_read.proofs.Lists.{nothing_left, begins, fits_more, rest_of, next_value, end_value}
 use Rattle.report_read.proofs.reading.Reading.take.Goals as goal
 

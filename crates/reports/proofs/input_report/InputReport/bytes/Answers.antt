@@ -1,4 +1,4 @@
-use Rattle.reports.specs.ties.Words.{first_bytes}
+use Rattle.reports.specs.representation.Words.{first_bytes}
 use Rattle.reports.proofs.InWords.{take_first}
 use Rattle.reports.proofs.input_report.InputReport.bytes.Goals as goal
 

@@ -3,13 +3,13 @@ use Rattle.std.specs.Str.{bytes_eq}
 use Rattle.reports.specs.declared.Input.{Input}
 use Rattle.reports.specs.declared.Input.TheVariants.{One, Two}
 use Rattle.reports.specs.Calls.{PollerCall}
-use Rattle.reports.specs.ties.Kept.{SentValue}
+use Rattle.reports.specs.representation.Kept.{SentValue}
 use Rattle.reports.specs.Poll.{is_changed}
-use Rattle.reports.specs.ties.Stands.{SentStandsFor}
+use Rattle.reports.specs.representation.Relation.{SentRefines}
 use Rattle.reports.proofs.Due.{rule_answer-report, never_boot}
 use Rattle.reports.proofs.poller.Poller.due_report.Goals as goal
 
-changed : (report : Input) (past : List PollerCall) (bytes : Input → List ℕ) (wanted : List ℕ) (sent : SentValue) → bytes report ≡ wanted → SentStandsFor report past sent
+changed : (report : Input) (past : List PollerCall) (bytes : Input → List ℕ) (wanted : List ℕ) (sent : SentValue) → bytes report ≡ wanted → SentRefines report past sent
     → is_changed bytes past report ≡ not (bytes_eq wanted sent.bytes)
 changed report past bytes wanted sent e s = rw (e, ← s.bytes) refl
 

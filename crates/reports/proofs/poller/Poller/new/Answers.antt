@@ -1,10 +1,10 @@
 use Rattle.std.proofs.Common.{refl}
 use Rattle.reports.specs.declared.Input.TheVariants.{Boot, One, Two}
-use Rattle.reports.proofs.Rule.{sent-nothing, fresh-stands}
+use Rattle.reports.proofs.Rule.{sent-nothing, fresh-refines}
 use Rattle.reports.proofs.poller.Poller.new.Goals as goal
 
-pub returns-clause-stands : goal.returns-clause-stands
-returns-clause-stands c = fresh-stands _ record {
+pub returns-clause-refines : goal.returns-clause-refines
+returns-clause-refines c = fresh-refines _ record {
   boot = sent-nothing Boot _ c.unused.ensures.bytes c.unused.ensures.age;
   one = sent-nothing One _ c.unused-2.ensures.bytes c.unused-2.ensures.age;
   two = sent-nothing Two _ c.unused-3.ensures.bytes c.unused-3.ensures.age;

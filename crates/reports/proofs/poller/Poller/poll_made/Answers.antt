@@ -5,8 +5,8 @@ use Rattle.reports.proofs.Rule.{answer-front, answer-rule}
 use Rattle.reports.proofs.Waiting.{queue-poll}
 use Rattle.reports.proofs.poller.Poller.poll_made.Goals as goal
 
-pub returns-then-is_empty-clause-stands : goal.returns-then-is_empty-clause-stands
-returns-then-is_empty-clause-stands c past s =
+pub returns-then-is_empty-clause-refines : goal.returns-then-is_empty-clause-refines
+returns-then-is_empty-clause-refines c past s =
     let h = rw (← c.self.view_is) at s in
     let e : is_none (slice_get (queue past) 0) ≡ true = rw h.queue at (sym c.is_empty.ensures ∙ c.if-is_empty.true) in
     record {
@@ -20,8 +20,8 @@ returns-then-is_empty-clause-answer c past bytes m s =
     let e : is_none (slice_get (queue past) 0) ≡ true = rw h.queue at (sym c.is_empty.ensures ∙ c.if-is_empty.true) in
     c.send_due.ensures.answer past bytes m s.rule ∙ answer-rule c.args.protocol bytes past (get_none (queue past) e)
 
-pub returns-else-is_empty-clause-stands : goal.returns-else-is_empty-clause-stands
-returns-else-is_empty-clause-stands c past s = record {
+pub returns-else-is_empty-clause-refines : goal.returns-else-is_empty-clause-refines
+returns-else-is_empty-clause-refines c past s = record {
   rule = c.send_front.ensures.rule past c.args.protocol s.rule;
   queue = c.send_front.ensures.queue ∙ ap (λ (q : List (List ℕ)). drop 1 q) s.queue ∙ sym (queue-poll past c.args.protocol _);
 }

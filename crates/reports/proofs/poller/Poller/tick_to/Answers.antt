@@ -5,8 +5,8 @@ use Rattle.reports.specs.Wanted.{wanted}
 use Rattle.reports.proofs.Made.{same_made_for}
 use Rattle.reports.proofs.poller.Poller.tick_to.Goals as goal
 
-pub returns-clause-stands : goal.returns-clause-stands
-returns-clause-stands c past before m s =
+pub returns-clause-refines : goal.returns-clause-refines
+returns-clause-refines c past before m s =
     let now = wanted (has_key c.args.now.now) (has_consumer c.args.now.now) in
     record {
       rule = c.push_changes.ensures.rule (ticked c.args.protocol before now ∷ past) (c.grow_older.ensures.rule past c.args.protocol before now s.rule);

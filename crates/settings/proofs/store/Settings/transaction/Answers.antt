@@ -12,13 +12,13 @@ returns-in-Err-clause-stores g c =
 pub loop-self-init : goal.loop-self-init
 loop-self-init g c =
     let f = g.F.NorFlash in
-    so_far_none f.image f.operations f.operates f.is_faultless c.args.changes.now c.args.flash.now c.begin.new.self c.begin.ensures.stands (c.in_default.ensures.busy.0 refl) (c.in_default.ensures.goes_to refl) (c.in_default.ensures.needs refl)
+    so_far_none f.image f.operations f.operates f.is_faultless c.args.changes.now c.args.flash.now c.begin.new.self c.begin.ensures.refines (c.in_default.ensures.busy.0 refl) (c.in_default.ensures.goes_to refl) (c.in_default.ensures.needs refl)
 
 pub loop-self-preserved : goal.loop-self-preserved
 loop-self-preserved g c =
     let f = g.F.NorFlash in
     let e = c.fails.ensures in
-    so_far_more f.image f.operations f.operates f.is_faultless c.args.changes.now c.fails.result _ _ c.args.flash.now c.loop-self.self c.loop-self.flash c.fails.new.self c.fails.new.flash c.loop-self.invariant (c.busy.ensures.0 c.loop-self-test.true) e.makes e.stands c.if-fails.false
+    so_far_more f.image f.operations f.operates f.is_faultless c.args.changes.now c.fails.result _ _ c.args.flash.now c.loop-self.self c.loop-self.flash c.fails.new.self c.fails.new.flash c.loop-self.invariant (c.busy.ensures.0 c.loop-self-test.true) e.makes e.refines c.if-fails.false
     e.kept (e.stored c.if-fails.false) e.more (e.last c.if-fails.false)
 
 pub returns-then-fails-clause-stores : goal.returns-then-fails-clause-stores

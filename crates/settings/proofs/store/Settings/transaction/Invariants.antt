@@ -1,5 +1,5 @@
 use Rattle.settings.specs.Left.{left}
-use Rattle.settings.specs.ties.Whole.{SoFar}
+use Rattle.settings.specs.representation.Whole.{SoFar}
 use Rattle.settings.proofs.store.Settings.transaction.Given as goal
 
 abbrev pub invariant-loop-self : goal.invariant-loop-self

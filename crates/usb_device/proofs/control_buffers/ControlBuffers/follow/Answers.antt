@@ -1,7 +1,7 @@
 use Rattle.std.proofs.Common.{refl, sym, ap, subst, ◌∙◌, ◌≡◌}
 use Rattle.usb_device.specs.Bus.{looked}
 use Rattle.usb_device.specs.Transfers.{TransferState, Reads, ReadDue, Sent, Closing}
-use Rattle.usb_device.specs.ties.Link.{Link, transfer_view}
+use Rattle.usb_device.specs.representation.Link.{Link, transfer_view}
 use Rattle.usb_device.proofs.Moving.{looked_free, owes_nothing}
 use Rattle.usb_device.proofs.control_buffers.ControlBuffers.follow.Goals as goal
 

@@ -1,7 +1,7 @@
 use Rattle.std.proofs.Common.{[], ◌∷◌, refl, sym, ap, subst, ◌∙◌, ◌≡◌}
 use Rattle.usb_device.specs.Calls.{Out}
 use Rattle.usb_device.specs.Transfers.{TransferState, Refused, Closing, Opening, Keeps, Asking, Rests}
-use Rattle.usb_device.specs.ties.Link.{Ready, Link, transfer_view}
+use Rattle.usb_device.specs.representation.Link.{Ready, Link, transfer_view}
 use Rattle.usb_device.proofs.Moving.{opened, asking_due, closed_again, offered_ack, offered_nak, offered_else}
 use Rattle.usb_device.proofs.Addressing.{adds_more}
 use Rattle.usb_device.proofs.Resting.{opens}
@@ -19,7 +19,7 @@ returns-in-Ack-clause-linked g c = λ calls s h r.
     let t : c.args.self.now ≡ Keeps p = sym c.self.view_is ∙ ap transfer_view c.in-Kept.is ∙ ap Keeps (sym c.as_slice.ensures.value) in
     let R : TransferState → Type 0 = λ x. Ready x (g.C.Controller.bus c.args.controller.now) calls in
     let after = Out p c.out.result ∷ calls in
-    let x = c.ask.ensures.linked after (c.out.ensures.stands calls s) (rw c.in-Ack.is (offered_ack _ c.args.self.now p calls t (subst R t r) h)) in
+    let x = c.ask.ensures.linked after (c.out.ensures.refines calls s) (rw c.in-Ack.is (offered_ack _ c.args.self.now p calls t (subst R t r) h)) in
     (x.0, x.1, x.2, x.3, adds_more [] calls after x.0 (Out p c.out.result ∷ [], refl, refl) x.4)
 
 pub returns-in-Nak-clause-linked : goal.returns-in-Nak-clause-linked
@@ -28,7 +28,7 @@ returns-in-Nak-clause-linked g c = λ calls s h r.
     let t : c.args.self.now ≡ Keeps p = sym c.self.view_is ∙ ap transfer_view c.in-Kept.is ∙ ap Keeps (sym c.as_slice.ensures.value) in
     let later = Out p c.out.result ∷ calls in
     let R : TransferState → Type 0 = λ x. Rests x (g.C.Controller.bus c.args.controller.now) later in
-    (later, c.out.ensures.stands calls s, rw c.in-Nak.is (offered_nak _ c.args.self.now p calls t h), λ q. subst R (sym t) (rw c.in-Nak.is refl), (Out p c.out.result ∷ [], refl, refl))
+    (later, c.out.ensures.refines calls s, rw c.in-Nak.is (offered_nak _ c.args.self.now p calls t h), λ q. subst R (sym t) (rw c.in-Nak.is refl), (Out p c.out.result ∷ [], refl, refl))
 
 pub returns-in-Packet-clause-linked : goal.returns-in-Packet-clause-linked
 returns-in-Packet-clause-linked g c = λ calls s h r.
@@ -38,9 +38,9 @@ returns-in-Packet-clause-linked g c = λ calls s h r.
     let R : TransferState → Type 0 = λ x. Ready x (g.C.Controller.bus c.args.controller.now) calls in
     let e = c.refuse.ensures in (
       after,
-      c.out.ensures.stands calls s,
+      c.out.ensures.refines calls s,
       rw e.over (e.linked after (offered_else _ c.args.self.now p c.out.result calls t (subst R t r) h)),
-      rw e.over (e.told after tt),
+      rw e.over (e.reported after tt),
       (Out p c.out.result ∷ [], refl, refl),
     )
 
@@ -67,4 +67,4 @@ returns-in-Refused-clause-linked g c = λ calls s h r.
     let T : TransferState → Type 0 = λ x. Link x (g.C.Controller.bus c.args.controller.now) calls in
     let R : TransferState → Type 0 = λ x. Ready x (g.C.Controller.bus c.args.controller.now) calls in
     let e = c.refuse-in-Refused.ensures in
-    (calls, s, rw e.over (e.linked calls (subst T t h)), rw e.over (e.told calls (subst R t r)), ([], refl, refl))
+    (calls, s, rw e.over (e.linked calls (subst T t h)), rw e.over (e.reported calls (subst R t r)), ([], refl, refl))

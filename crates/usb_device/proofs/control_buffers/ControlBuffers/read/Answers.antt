@@ -15,7 +15,7 @@ returns-after-len-eq8-clause-linked g c = λ calls s h.
     let p = c.in-Packet.packet.items in
     let opened = opens o.1 (g.C.Controller.bus c.open.new.controller) o.3 in (
       after,
-      c.in_packet.ensures.stands calls s,
+      c.in_packet.ensures.refines calls s,
       read_hands o.0 o.1 _ _ i.0 i.1 _ left p after o.2 o.3 i.2 i.3 (read_answer c.args.left (Reads left) _ c.in_packet.result calls h),
       λ q. (let held = hands i.0 (g.C.Controller.bus c.open.new.controller) i.1 (g.C.Controller.bus c.hand_over.new.controller) p i.2 i.3 opened q in
           ((p, rw c.in-Packet.is refl, held.0), held.1)),
@@ -24,13 +24,13 @@ returns-after-len-eq8-clause-linked g c = λ calls s h.
 
 pub returns-in-Nak-clause-linked : goal.returns-in-Nak-clause-linked
 returns-in-Nak-clause-linked g c = λ calls s h.
-    (In c.in_packet.result ∷ calls, c.in_packet.ensures.stands calls s, read_answer c.args.left (ReadDue c.args.left) _ c.in_packet.result calls h, λ q. rw c.in-Nak.is refl, (In c.in_packet.result ∷ [], refl, refl))
+    (In c.in_packet.result ∷ calls, c.in_packet.ensures.refines calls s, read_answer c.args.left (ReadDue c.args.left) _ c.in_packet.result calls h, λ q. rw c.in-Nak.is refl, (In c.in_packet.result ∷ [], refl, refl))
 
 pub returns-in-Ack-clause-linked : goal.returns-in-Ack-clause-linked
 returns-in-Ack-clause-linked g c = λ calls s h.
     let after = In c.in_packet.result ∷ calls in
     let r = c.refuse.ensures in
-    (after, c.in_packet.ensures.stands calls s, rw r.over (r.linked after (read_answer c.args.left Refused _ c.in_packet.result calls h)), rw r.over (r.told after tt), (In c.in_packet.result ∷ [], refl, refl))
+    (after, c.in_packet.ensures.refines calls s, rw r.over (r.linked after (read_answer c.args.left Refused _ c.in_packet.result calls h)), rw r.over (r.reported after tt), (In c.in_packet.result ∷ [], refl, refl))
 
 pub returns-after-len-eq8-clause-stays : goal.returns-after-len-eq8-clause-stays
 returns-after-len-eq8-clause-stays g c =

@@ -2,7 +2,7 @@ use Rattle.std.proofs.Common.{Bool, subst, List, [], ◌∷◌, Some, None, true
 use Rattle.usb_device.specs.Calls.{EpCall, SetUp, BusReset}
 use Rattle.usb_device.specs.Bus.{Met, looked}
 use Rattle.usb_device.specs.Bus1.{KeptUnless}
-use Rattle.usb_device.specs.ties.Link.{transfer_view}
+use Rattle.usb_device.specs.representation.Link.{transfer_view}
 use Rattle.usb_device.proofs.Moving.{begins, behind_reset, stood, kept_behind, same_behind, resets, not_pending}
 use Rattle.usb_device.proofs.Resting.{begun_ready}
 use Rattle.usb_device.proofs.control_buffers.ControlBuffers.take.Goals as goal
@@ -15,7 +15,7 @@ returns-in-Some-clause-linked g c = λ b calls s h e r.
     let f = c.first_transfer-self-inside.ensures in
     let q = ap (λ (m : Met). m.reset) e in
     let before = behind_reset b.met.reset calls in
-    let S : List EpCall → Type 0 = λ x. g.E.Endpoints.stands x c.hand_on.new.device in (
+    let S : List EpCall → Type 0 = λ x. g.E.Endpoints.refines x c.hand_on.new.device in (
       SetUp setup ∷ before,
       stood S b.met.reset setup calls (λ y. c.hand_on.ensures.behind_a_reset calls (q ∙ y) s) (λ n. c.hand_on.ensures.alone calls (q ∙ n) s),
       begins c.args.self.now (transfer_view t) b calls before setup h n (kept_behind b.met.reset c.args.self.now b calls h) f.write f.no_data,
@@ -28,7 +28,7 @@ returns-then-met-clause-linked g c = λ b calls s h e r.
     let n : b.met.setup ≡ None = sym (ap (λ (m : Met). m.setup) e) ∙ c.in-None.is in
     let q : b.met.reset ≡ true = sym (ap (λ (m : Met). m.reset) e) ∙ c.if-met.true in
     let K : Bool → Type 0 = λ x. KeptUnless x calls (BusReset ∷ calls) in
-    (BusReset ∷ calls, c.bus_reset.ensures.stands calls s, resets c.args.self.now b calls h q n, refl, subst K (sym q) (BusReset ∷ [], refl, refl))
+    (BusReset ∷ calls, c.bus_reset.ensures.refines calls s, resets c.args.self.now b calls h q n, refl, subst K (sym q) (BusReset ∷ [], refl, refl))
 
 pub returns-else-met-clause-linked : goal.returns-else-met-clause-linked
 returns-else-met-clause-linked g c = λ b calls s h e r.

@@ -3,19 +3,19 @@ use Rattle.usb_device.specs.Calls.{Polled}
 use Rattle.usb_device.specs.Events.{PollAsked}
 use Rattle.usb_device.specs.Steps.{polled_of}
 use Rattle.usb_device.specs.Through.{calls_of}
-use Rattle.usb_device.specs.ties.Link1.{Link1}
+use Rattle.usb_device.specs.representation.Link1.{Link1}
 use Rattle.usb_device.proofs.Reporting.{polled_none}
 use Rattle.usb_device.proofs.device.Device.ask.Goals as goal
 
-pub returns-in-None-clause-stands : goal.returns-in-None-clause-stands
-returns-in-None-clause-stands g c = λ lent past h.
+pub returns-in-None-clause-refines : goal.returns-in-None-clause-refines
+returns-in-None-clause-refines g c = λ lent past h.
     let answer = c.poll.result in
     let b = g.B.Buffers.bus c.args.self.now.buffers in
     let none : polled_of answer ≡ None = sym (rw c.in-None.is at c.report_of.ensures) in
     let L : Option (List ℕ) → Type 0 = λ x. Link1 c.args.self.now.reports b (Polled x ∷ calls_of past) in (
       PollAsked answer ∷ past,
       (
-        c.poll.ensures.stands lent past h.0,
+        c.poll.ensures.refines lent past h.0,
         c.poll.ensures.session lent past h.0 h.1,
         subst L (sym none) (polled_none c.args.self.now.reports b (calls_of past) (c.is_free.ensures.free c.if-is_free.true) h.2),
         h.3,

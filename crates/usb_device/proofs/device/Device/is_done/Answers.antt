@@ -1,14 +1,14 @@
 use Rattle.std.proofs.Common.{sym, ap, ◌∙◌}
 use Rattle.usb_device.specs.Steps.{LayerState}
 use Rattle.usb_device.specs.Through.{calls_of}
-use Rattle.usb_device.specs.ties.Layered.{states_set}
+use Rattle.usb_device.specs.representation.Layered.{states_set}
 use Rattle.usb_device.proofs.Carrying.{true_false}
 use Rattle.usb_device.proofs.Layering.{began_link, began_in_step, began_host}
 use Rattle.usb_device.proofs.Stating.{standing}
 use Rattle.usb_device.proofs.device.Device.is_done.Goals as goal
 
-pub returns-then-has_renewed-clause-stands : goal.returns-then-has_renewed-clause-stands
-returns-then-has_renewed-clause-stands g c = λ lent past h.
+pub returns-then-has_renewed-clause-refines : goal.returns-then-has_renewed-clause-refines
+returns-then-has_renewed-clause-refines g c = λ lent past h.
     let i = c.host_began.ensures in
     let b = g.B.Buffers.bus c.host_began.new.self in (
       h.0,

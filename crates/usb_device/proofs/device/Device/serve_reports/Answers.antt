@@ -1,23 +1,23 @@
 use Rattle.std.proofs.Common.{◌≡◌, ◌==◌, ℕ, true, false, refl, sym, ap, subst, inl, inr, ◌∙◌}
 use Rattle.usb_device.specs.Bus1.{Bus1, room_of}
 use Rattle.usb_device.specs.Through.{calls_of}
-use Rattle.usb_device.specs.ties.Link1.{ReportState, Link1, NothingWithheld, may_send, may_not}
-use Rattle.usb_device.specs.ties.Layered.{is_ready, states_set}
+use Rattle.usb_device.specs.representation.Link1.{ReportState, Link1, NothingWithheld, may_send, may_not}
+use Rattle.usb_device.specs.representation.Layered.{is_ready, states_set}
 use Rattle.usb_device.proofs.Reporting.{goes1}
 use Rattle.usb_device.proofs.Handing.{goes_held, rests_none, may_by, may_unknown, may_unready}
-use Rattle.usb_device.proofs.Layering.{told_in_step}
+use Rattle.usb_device.proofs.Layering.{reported_in_step}
 use Rattle.usb_device.proofs.device.Device.serve_reports.Goals.{else-is_ready-via-then-is_ready+else-is_known, else-is_ready-via-else-is_ready}
 use Rattle.usb_device.proofs.device.Device.serve_reports.Goals as goal
 
-pub returns-then-is_known-clause-stands : goal.returns-then-is_known-clause-stands
-returns-then-is_known-clause-stands g c = λ lent past h.
+pub returns-then-is_known-clause-refines : goal.returns-then-is_known-clause-refines
+returns-then-is_known-clause-refines g c = λ lent past h.
     let old = g.B.Buffers.bus c.args.self.now.buffers in
     let seen = g.B.Buffers.bus c.taken_1-count.new.self in
     let new = g.B.Buffers.bus c.fill.new.buffers in
     let t = c.taken_1-count.ensures in
     let P : Bus1 → Type 0 = λ x. Link1 c.taken.new.self x (calls_of past) in
     let linked = subst P (sym t.4) (c.taken.ensures.linked t.1 (calls_of past) (sym t.3) (goes1 t.0 c.args.self.now.reports old t.1 (calls_of past) t.2 h.2)) in
-    let a = c.ask.ensures.stands lent past (h.0, h.1, linked, told_in_step t.0 (states_set lent past) old t.1 seen t.2 t.4 h.3) in
+    let a = c.ask.ensures.refines lent past (h.0, h.1, linked, reported_in_step t.0 (states_set lent past) old t.1 seen t.2 t.4 h.3) in
     let end = c.fill.ensures.linked (calls_of a.0) a.1.2 in
     let may = may_send (is_ready c.args.self.now.layer.endpoint) c.args.self.now.reports.left in
     let known : (c.args.self.now.reports.left == 0) ≡ true = ap (λ (x : ℕ). x == 0) (sym c.taken.ensures.waits) ∙ sym c.is_known.ensures ∙ c.if-is_known.true in
@@ -31,14 +31,14 @@ returns-then-is_known-clause-stands g c = λ lent past h.
     ]
     in (
       a.0,
-      (a.1.0, a.1.1, end, c.fill.ensures.told (states_set lent a.0) (calls_of a.0) a.1.2 a.1.3),
+      (a.1.0, a.1.1, end, c.fill.ensures.reported (states_set lent a.0) (calls_of a.0) a.1.2 a.1.3),
       nothing,
       a.3,
       λ n. absurd (let x : true ≡ false = sym now ∙ n in cc),
     )
 
-pub returns-else-is_ready-clause-stands : goal.returns-else-is_ready-clause-stands
-returns-else-is_ready-clause-stands g c = λ lent past h.
+pub returns-else-is_ready-clause-refines : goal.returns-else-is_ready-clause-refines
+returns-else-is_ready-clause-refines g c = λ lent past h.
     let old = g.B.Buffers.bus c.args.self.now.buffers in
     let seen = g.B.Buffers.bus c.taken_1-count.new.self in
     let t = c.taken_1-count.ensures in
@@ -53,7 +53,7 @@ returns-else-is_ready-clause-stands g c = λ lent past h.
     ]
     in (
       past,
-      (h.0, h.1, linked, told_in_step t.0 (states_set lent past) old t.1 seen t.2 t.4 h.3),
+      (h.0, h.1, linked, reported_in_step t.0 (states_set lent past) old t.1 seen t.2 t.4 h.3),
       may_not may,
       inl refl,
       λ n. (refl, (t.0, t.1, t.2, t.4)),

@@ -5,12 +5,12 @@ use Rattle.usb_device.specs.Through.{calls_of}
 use Rattle.usb_device.proofs.Reporting.{same_reports}
 use Rattle.usb_device.proofs.device.Device.take.Goals as goal
 
-pub returns-clause-stands : goal.returns-clause-stands
-returns-clause-stands g c = λ calls p.
+pub returns-clause-refines : goal.returns-clause-refines
+returns-clause-refines g c = λ calls p.
     let call = Out c.args.packet.now c.out_packet.result in
     let e = c.out_packet.ensures in (
       p.0,
       OutCame c.args.packet.now c.out_packet.result ∷ p.1,
-      (e.stands p.0 p.1 p.2.0, e.session p.0 p.1 p.2.0 p.2.1, same_reports _ _ (calls_of p.1) (call ∷ calls_of p.1) p.2.2 refl refl, p.2.3),
+      (e.refines p.0 p.1 p.2.0, e.session p.0 p.1 p.2.0 p.2.1, same_reports _ _ (calls_of p.1) (call ∷ calls_of p.1) p.2.2 refl refl, p.2.3),
       ap (λ x. call ∷ x) p.3,
     )

@@ -4,12 +4,12 @@ use Rattle.usb_device.specs.Calls.{In}
 use Rattle.usb_device.specs.Events.{InAsked}
 use Rattle.usb_device.specs.Steps.{LayerState, change_of, state_of}
 use Rattle.usb_device.specs.Through.{calls_of}
-use Rattle.usb_device.specs.ties.Link1.{InStep}
-use Rattle.usb_device.specs.ties.Layered.{endpoint_set, with_state, states_set}
+use Rattle.usb_device.specs.representation.Link1.{InStep}
+use Rattle.usb_device.specs.representation.Layered.{endpoint_set, with_state, states_set}
 use Rattle.usb_device.proofs.device.DeviceEndpoints.in_packet.Goals as goal
 
-pub returns-clause-stands : goal.returns-clause-stands
-returns-clause-stands g c = λ calls p.
+pub returns-clause-refines : goal.returns-clause-refines
+returns-clause-refines g c = λ calls p.
     let answer = c.in_packet-answer.result.0 in
     let change = c.in_packet-answer.result.1 in
     let e = c.in_packet-answer.ensures in
@@ -20,10 +20,10 @@ returns-clause-stands g c = λ calls p.
       p.0,
       InAsked answer ∷ p.1,
       (
-        e.stands p.0 p.1 p.2.0,
+        e.refines p.0 p.1 p.2.0,
         e.session p.0 p.1 p.2.0 p.2.1,
         c.hold.ensures.linked b (In answer ∷ calls_of p.1) (c.answered.ensures.linked (calls_of p.1) (c.follow.ensures.linked (calls_of p.1) p.2.2)),
-        c.answered.ensures.told states (subst S same (c.follow.ensures.told (states_set p.0 p.1) p.2.3)),
+        c.answered.ensures.reported states (subst S same (c.follow.ensures.reported (states_set p.0 p.1) p.2.3)),
       ),
       ap (λ x. In answer ∷ x) p.3,
     )

@@ -5,8 +5,8 @@ use Rattle.usb_device.proofs.Next.{next}
 use Rattle.usb_device.proofs.Stating.{wakes_looked}
 use Rattle.usb_device.proofs.device_layer.DeviceLayer.wakes.Goals as goal
 
-pub returns-clause-stands : goal.returns-clause-stands
-returns-clause-stands c = λ lent past h.
+pub returns-clause-refines : goal.returns-clause-refines
+returns-clause-refines c = λ lent past h.
     next lent past c.args.self.now _ (WakeAsked c.args.has_report c.answer_wakes.result) h c.answer_wakes.ensures.answer c.answer_wakes.ensures.left
 
 pub returns-clause-answer : goal.returns-clause-answer

@@ -1,5 +1,5 @@
 use Rattle.std.proofs.Common.{refl}
-use Rattle.usb_device.specs.ties.Forgetting.{forgets_of}
+use Rattle.usb_device.specs.representation.Forgetting.{forgets_of}
 use Rattle.usb_device.proofs.forgetting.Forgets.new.Goals as goal
 
 pub returns : goal.returns

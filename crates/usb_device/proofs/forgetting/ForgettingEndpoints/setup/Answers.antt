@@ -1,5 +1,5 @@
 use Rattle.usb_device.proofs.Blanks.{on_setup}
 use Rattle.usb_device.proofs.forgetting.ForgettingEndpoints.setup.Goals as goal
 
-pub returns-clause-stands : goal.returns-clause-stands
-returns-clause-stands g c = λ calls s. on_setup g.E.Endpoints.stands calls c.args.packet c.args.self.now.forgets _ c.args.self.now.behind _ c.setup.ensures c.setup-2.ensures.stands s
+pub returns-clause-refines : goal.returns-clause-refines
+returns-clause-refines g c = λ calls s. on_setup g.E.Endpoints.refines calls c.args.packet c.args.self.now.forgets _ c.args.self.now.behind _ c.setup.ensures c.setup-2.ensures.refines s

@@ -6,6 +6,6 @@ use Rattle.usb_device.proofs.guarded.GuardedWorks.work.Goals as goal
 pub returns : goal.returns
 returns g c = record {
   made = c.work.ensures.made;
-  told = λ pace past s. on_work g.E.Endpoints.stands pace past c.args.self.now.guard c.args.self.now.behind _ (c.work.ensures.stands (passed pace past)) s;
-  went = λ pace past s. ([], refl, on_work g.E.Endpoints.stands pace past c.args.self.now.guard c.args.self.now.behind _ (c.work.ensures.stands (passed pace past)) s);
+  reported = λ pace past s. on_work g.E.Endpoints.refines pace past c.args.self.now.guard c.args.self.now.behind _ (c.work.ensures.refines (passed pace past)) s;
+  went = λ pace past s. ([], refl, on_work g.E.Endpoints.refines pace past c.args.self.now.guard c.args.self.now.behind _ (c.work.ensures.refines (passed pace past)) s);
 }

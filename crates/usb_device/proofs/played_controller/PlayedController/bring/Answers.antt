@@ -1,6 +1,6 @@
 use Rattle.std.proofs.Common.{ap, sym, ◌∙◌}
 use Rattle.usb_device.specs.Bus.{out_mode_of}
-use Rattle.usb_device.specs.ties.Played0.{played_bus_0}
+use Rattle.usb_device.specs.representation.Played0.{played_bus_0}
 use Rattle.usb_device.proofs.Playing0.{brought}
 use Rattle.usb_device.proofs.played_controller.PlayedController.bring.Goals as goal
 

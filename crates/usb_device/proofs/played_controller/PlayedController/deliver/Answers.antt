@@ -1,5 +1,5 @@
 use Rattle.std.proofs.Common.{true, ap, sym}
-use Rattle.usb_device.specs.ties.Played0.{played_bus_0, mode_by}
+use Rattle.usb_device.specs.representation.Played0.{played_bus_0, mode_by}
 use Rattle.usb_device.proofs.Playing0.{took, lost}
 use Rattle.usb_device.proofs.played_controller.PlayedController.deliver.Goals as goal
 

@@ -1,4 +1,4 @@
-use Rattle.usb_device.specs.ties.Played0.{played_bus_0}
+use Rattle.usb_device.specs.representation.Played0.{played_bus_0}
 use Rattle.usb_device.proofs.Playing0.{set_up}
 use Rattle.usb_device.proofs.played_controller.PlayedController.set_up.Goals as goal
 

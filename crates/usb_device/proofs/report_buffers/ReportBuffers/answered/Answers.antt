@@ -2,9 +2,9 @@ use Rattle.std.proofs.Common.{◌≡◌, ◌∷◌, ◌&&◌, true, false, refl,
 use Rattle.usb_device.specs.Bus1.{Bus1, Changed, changed_if, sent_of}
 use Rattle.usb_device.specs.Calls.{In}
 use Rattle.usb_device.specs.States.{is_empty_packet}
-use Rattle.usb_device.specs.ties.Link1.{Link1}
+use Rattle.usb_device.specs.representation.Link1.{Link1}
 use Rattle.usb_device.proofs.Reporting.{goes1, same_reports}
-use Rattle.usb_device.proofs.Layering.{told_in_step}
+use Rattle.usb_device.proofs.Layering.{reported_in_step}
 use Rattle.usb_device.proofs.report_buffers.ReportBuffers.answered.Goals as goal
 
 pub returns-then-is_change-clause-linked : goal.returns-then-is_change-clause-linked
@@ -20,10 +20,10 @@ returns-then-is_change-clause-linked g c = λ calls h.
     ap (λ x. changed_if x (sent_of calls)) (ap (λ x. is_empty_packet answer && x) (sym h.asked) ∙ yes) in
     c.change.ensures.linked calls (In answer ∷ calls) sent refl linked
 
-pub returns-then-is_change-clause-told : goal.returns-then-is_change-clause-told
-returns-then-is_change-clause-told g c = λ states h.
+pub returns-then-is_change-clause-reported : goal.returns-then-is_change-clause-reported
+returns-then-is_change-clause-reported g c = λ states h.
     let t = c.taken_1-count.ensures in
-    c.change.ensures.told states (told_in_step t.0 states (g.B.Buffers.bus c.args.buffers.now) t.1 (g.B.Buffers.bus c.taken_1-count.new.self) t.2 t.4 h)
+    c.change.ensures.reported states (reported_in_step t.0 states (g.B.Buffers.bus c.args.buffers.now) t.1 (g.B.Buffers.bus c.taken_1-count.new.self) t.2 t.4 h)
 
 pub returns-else-is_change-clause-linked : goal.returns-else-is_change-clause-linked
 returns-else-is_change-clause-linked g c = λ calls h.

@@ -1,6 +1,6 @@
 use Rattle.std.proofs.Common.{sym, subst, ap, ◌∙◌}
 use Rattle.usb_device.specs.contracts.report_buffers.ReportBuffers.{the_view}
-use Rattle.usb_device.specs.ties.Link1.{ReportState, Link1}
+use Rattle.usb_device.specs.representation.Link1.{ReportState, Link1}
 use Rattle.usb_device.proofs.Reporting.{polled_some}
 use Rattle.usb_device.proofs.report_buffers.ReportBuffers.begin.Goals as goal
 

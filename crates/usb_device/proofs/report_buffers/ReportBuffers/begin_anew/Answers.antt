@@ -1,7 +1,7 @@
 use Rattle.std.proofs.Common.{◌≡◌, false, sym, subst, inl, inr}
 use Rattle.usb_device.specs.declared.report_buffers.Course.TheVariants.{Goes}
 use Rattle.usb_device.specs.contracts.report_buffers.ReportBuffers.{the_view}
-use Rattle.usb_device.specs.ties.Link1.{ReportState, Link1}
+use Rattle.usb_device.specs.representation.Link1.{ReportState, Link1}
 use Rattle.usb_device.proofs.Emptying.{anew_went, anew_rested, anew_begins}
 use Rattle.usb_device.proofs.report_buffers.ReportBuffers.begin_anew.Goals as goal
 

@@ -1,7 +1,7 @@
 use Rattle.std.proofs.Common.{◌≡◌, sym, subst, ap, ◌∙◌}
 use Rattle.usb_device.specs.declared.report_buffers.Course.TheVariants.{Rests, Begins, Goes}
 use Rattle.usb_device.specs.Bus1.{is_old, newest}
-use Rattle.usb_device.specs.ties.Link1.{ReportState, Link1}
+use Rattle.usb_device.specs.representation.Link1.{ReportState, Link1}
 use Rattle.usb_device.proofs.Emptying.{changed_rests, goes_on}
 use Rattle.usb_device.proofs.report_buffers.ReportBuffers.change.Goals as goal
 

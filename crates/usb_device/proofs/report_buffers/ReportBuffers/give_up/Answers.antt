@@ -2,7 +2,7 @@ use Rattle.std.proofs.Common.{◌≡◌, true, sym, subst, ap, ◌∙◌, inl, i
 use Rattle.usb_device.specs.declared.report_buffers.Course.TheVariants.{Rests, Goes}
 use Rattle.usb_device.specs.Bus1.{Bus1, sent_of, is_old}
 use Rattle.usb_device.specs.contracts.report_buffers.ReportBuffers.{the_view}
-use Rattle.usb_device.specs.ties.Link1.{ReportState, Link1}
+use Rattle.usb_device.specs.representation.Link1.{ReportState, Link1}
 use Rattle.usb_device.proofs.Reporting.{goes1}
 use Rattle.usb_device.proofs.Emptying.{given_up_went, given_up_waited}
 use Rattle.usb_device.proofs.Layering.{given_up_in_step}
@@ -31,12 +31,12 @@ returns-in-Rests-clause-linked g c = λ calls later k o n a h.
       | inr e ↦ subst Q (sym i.3) (given_up_waited s i.1 calls later e (subst O (sym c.self.view_is) o) n a (goes1 i.0 s old i.1 calls i.2 (subst P (sym c.self.view_is) h)))
     ]
 
-pub returns-in-Goes-clause-told : goal.returns-in-Goes-clause-told
-returns-in-Goes-clause-told g c = λ states h.
+pub returns-in-Goes-clause-reported : goal.returns-in-Goes-clause-reported
+returns-in-Goes-clause-reported g c = λ states h.
     let i = c.give_up.ensures in
     given_up_in_step i.0 states (g.B.Buffers.bus c.args.buffers.now) i.1 (g.B.Buffers.bus c.give_up.new.self) i.2 i.3 h
 
-pub returns-in-Rests-clause-told : goal.returns-in-Rests-clause-told
-returns-in-Rests-clause-told g c = λ states h.
+pub returns-in-Rests-clause-reported : goal.returns-in-Rests-clause-reported
+returns-in-Rests-clause-reported g c = λ states h.
     let i = c.give_up.ensures in
     given_up_in_step i.0 states (g.B.Buffers.bus c.args.buffers.now) i.1 (g.B.Buffers.bus c.give_up.new.self) i.2 i.3 h

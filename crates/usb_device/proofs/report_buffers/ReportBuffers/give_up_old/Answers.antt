@@ -1,6 +1,6 @@
 use Rattle.std.proofs.Common.{◌≡◌, true, refl, sym, ap, ◌∙◌}
 use Rattle.usb_device.specs.declared.report_buffers.Course.TheVariants.{Rests, Goes}
-use Rattle.usb_device.specs.ties.Link1.{ReportState}
+use Rattle.usb_device.specs.representation.Link1.{ReportState}
 use Rattle.usb_device.proofs.report_buffers.ReportBuffers.give_up_old.Goals as goal
 
 pub returns-then-self-clause-linked : goal.returns-then-self-clause-linked

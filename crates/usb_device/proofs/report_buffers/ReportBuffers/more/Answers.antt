@@ -1,5 +1,5 @@
 use Rattle.std.proofs.Common.{sym, subst, ap, ◌∙◌, ◌+◌, arith, ◌<◌}
-use Rattle.usb_device.specs.ties.Link1.{ReportState, Link1}
+use Rattle.usb_device.specs.representation.Link1.{ReportState, Link1}
 use Rattle.usb_device.specs.Bus1.{room_of}
 use Rattle.usb_device.proofs.Handing.{more_link, more_fits}
 use Rattle.usb_device.proofs.Layering.{filled_in_step}
@@ -19,8 +19,8 @@ returns-then-is_more-clause-linked g c = λ calls e h.
     (more_link c.args.self.now n i.0 _ i.1 new calls c.next_packet-packet.result.items g.B.Buffers.two e
     c.next_packet-packet.ensures.same (c.next_packet-packet.ensures.packet (sym c.is_more.ensures ∙ c.if-is_more.true)) fits i.2 i.3 h)
 
-pub returns-then-is_more-clause-told : goal.returns-then-is_more-clause-told
-returns-then-is_more-clause-told g c = λ states calls e h k.
+pub returns-then-is_more-clause-reported : goal.returns-then-is_more-clause-reported
+returns-then-is_more-clause-reported g c = λ states calls e h k.
     let room = c.room.ensures in
     let same = ap (λ (x : ReportState). x.buffered) c.self.view_is in
     let test = c.if-self-room.true in

@@ -1,6 +1,6 @@
 use Rattle.std.proofs.Common.{sym, subst}
 use Rattle.usb_device.specs.contracts.report_buffers.ReportBuffers.{the_view}
-use Rattle.usb_device.specs.ties.Link1.{ReportState, Link1}
+use Rattle.usb_device.specs.representation.Link1.{ReportState, Link1}
 use Rattle.usb_device.proofs.Reporting.{set_up}
 use Rattle.usb_device.proofs.report_buffers.ReportBuffers.setup.Goals as goal
 

@@ -3,9 +3,9 @@ use Rattle.usb_device.specs.Bus1.{room_of}
 use Rattle.usb_device.specs.Through.{calls_of}
 use Rattle.usb_device.specs.Transfers.{TransferState, NothingWithheld0, is_done}
 use Rattle.usb_device.specs.declared.answer.Endpoint1.{Endpoint1}
-use Rattle.usb_device.specs.ties.Link.{Link}
-use Rattle.usb_device.specs.ties.Link1.{NothingWithheld, may_send}
-use Rattle.usb_device.specs.ties.Layered.{is_ready}
+use Rattle.usb_device.specs.representation.Link.{Link}
+use Rattle.usb_device.specs.representation.Link1.{NothingWithheld, may_send}
+use Rattle.usb_device.specs.representation.Layered.{is_ready}
 use Rattle.usb_device.proofs.Layering.{polled_once}
 use Rattle.usb_device.proofs.Linked.{goes}
 use Rattle.usb_device.proofs.Resting.{rest_goes}
@@ -17,8 +17,8 @@ returns-clause-runs g c = λ calls lent past h.
     let a = c.serve.ensures.linked calls (lent, past, h.2, h.3) h.0 h.1 in
     let bus = g.C.Controller.bus c.tell.new.controller in
     let b = g.B.Buffers.bus c.serve_reports.new.self.buffers in
-    let settled = c.settle.ensures.stands a.1.0 a.1.1 a.1.2 in
-    let r = c.serve_reports.ensures.stands a.1.0 a.1.1 settled in
+    let settled = c.settle.ensures.refines a.1.0 a.1.1 a.1.2 in
+    let r = c.serve_reports.ensures.refines a.1.0 a.1.1 settled in
     let T : TransferState → Type 0 = λ x. Link x (g.C.Controller.bus c.serve.new.controller) a.0 in
     let N : TransferState → Type 0 = λ x. NothingWithheld0 x (g.C.Controller.bus c.serve.new.controller) a.0 in
     let tell = c.tell.ensures.met in
@@ -34,7 +34,7 @@ returns-clause-runs g c = λ calls lent past h.
       r.0,
       (linked, rests, r.1, polled_once a.1.1 r.0 r.3 ∙ a.1.3),
       subst L (sym c.serve_reports.ensures.waits) (subst E (sym c.serve_reports.ensures.same) r.2),
-      addressed (is_done c.settle.new.self.control) c.serve_reports.new.self.layer.due old bus calls a.0 (g.C.Controller.address_of c.args.controller.now) (g.C.Controller.address_of c.serve.new.controller) (g.C.Controller.address_of c.tell.new.controller) c.tell.ensures.told a.5,
+      addressed (is_done c.settle.new.self.control) c.serve_reports.new.self.layer.due old bus calls a.0 (g.C.Controller.address_of c.args.controller.now) (g.C.Controller.address_of c.serve.new.controller) (g.C.Controller.address_of c.tell.new.controller) c.tell.ensures.reported a.5,
       a.4,
     )
 

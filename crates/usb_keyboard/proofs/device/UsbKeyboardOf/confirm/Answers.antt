@@ -16,7 +16,7 @@ returns-in-Done g c = record {
       let i = c.loop-asked.invariant.0 start past r in
       let n = i.2 in
       let l = c.loop-asked-test.true in
-      let a = c.in_packet.ensures.told start (put_off i.0 ++ past) i.1 in
+      let a = c.in_packet.ensures.reported start (put_off i.0 ++ past) i.1 in
       (In a.0 ∷ put_off i.0, a.1, done_by i.0 a.0 (ap status_of (sym a.2) ∙ sym c.status_of.ensures ∙ c.in-Done.is), in_either (λ e. none_fails i.0 _ _ i.5 (omega (arith, n, l)) (sym (ap g.F.NorFlash.faults c.in_packet.ensures.flash) ∙ e)) i.4);
   faultless = λ x. subst g.F.NorFlash.is_faultless (sym c.in_packet.ensures.flash) (c.loop-asked.invariant.1 x);
 }
@@ -27,7 +27,7 @@ returns-in-Refuses g c = record {
       let i = c.loop-asked.invariant.0 start past r in
       let n = i.2 in
       let l = c.loop-asked-test.true in
-      let a = c.in_packet.ensures.told start (put_off i.0 ++ past) i.1 in
+      let a = c.in_packet.ensures.reported start (put_off i.0 ++ past) i.1 in
       (In a.0 ∷ put_off i.0, a.1, (a.0, i.0, ap status_of (sym a.2) ∙ sym c.status_of.ensures ∙ c.in-Refuses.is, refl), in_either (λ e. none_fails i.0 _ _ i.5 (omega (arith, n, l)) (sym (ap g.F.NorFlash.faults c.in_packet.ensures.flash) ∙ e)) i.4);
   faultless = λ x. subst g.F.NorFlash.is_faultless (sym c.in_packet.ensures.flash) (c.loop-asked.invariant.1 x);
 }
@@ -47,9 +47,9 @@ pub loop-asked-preserved : goal.loop-asked-preserved
 loop-asked-preserved g c = (
   λ start past r.
       let i = c.loop-asked.invariant.0 start past r in
-      let a = c.in_packet.ensures.told start (put_off i.0 ++ past) i.1 in
+      let a = c.in_packet.ensures.reported start (put_off i.0 ++ past) i.1 in
       waited_more g.D.Defaults.defaults start past i.0 a.0 c.step-work.result _ _ c.loop-asked._asked _ (ap status_of (sym a.2) ∙ sym c.status_of.ensures ∙ c.in-Waits.is)
-      (c.step-work.ensures.told start (In a.0 ∷ put_off i.0 ++ past) a.1) (is_in_time g.D.Defaults.defaults start (put_off i.0 ++ past) _ i.1.stands) i.2 i.4
+      (c.step-work.ensures.reported start (In a.0 ∷ put_off i.0 ++ past) a.1) (is_in_time g.D.Defaults.defaults start (put_off i.0 ++ past) _ i.1.refines) i.2 i.4
       (λ x. (c.step-work.ensures.faultless (subst g.F.NorFlash.is_faultless (sym c.in_packet.ensures.flash) (c.loop-asked.invariant.1 x))).1) _ _ _ _ _
       (subst (λ f. Raises i.0 (g.F.NorFlash.faults c.args.self.now.1) (g.F.NorFlash.faults f)) (sym c.in_packet.ensures.flash) i.5) c.step-work.ensures.counts,
   λ x. (c.step-work.ensures.faultless (subst g.F.NorFlash.is_faultless (sym c.in_packet.ensures.flash) (c.loop-asked.invariant.1 x))).0,

@@ -3,8 +3,8 @@ use Rattle.keymap_store.specs.declared.store.Work.{Work}
 use Rattle.keyboard.specs.Calls.{Call}
 use Rattle.keyboard.specs.Single.{NoneFails}
 use Rattle.usb_keyboard.specs.Whole.{put_off}
-use Rattle.usb_keyboard.specs.ties.Stands.{RunsSince}
-use Rattle.usb_keyboard.specs.ties.Whole.{WasInTime}
+use Rattle.usb_keyboard.specs.representation.Relation.{RunsSince}
+use Rattle.usb_keyboard.specs.representation.Whole.{WasInTime}
 use Rattle.usb_keyboard.proofs.Faults.{Raises}
 use Rattle.usb_keyboard.proofs.device.UsbKeyboardOf.confirm.Given as goal
 

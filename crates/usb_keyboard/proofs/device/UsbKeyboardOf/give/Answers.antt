@@ -13,7 +13,7 @@ returns-then-is_empty g c = record {
 pub returns-else-is_empty : goal.returns-else-is_empty
 returns-else-is_empty g c = record {
   calls = λ start past r.
-      let o = c.out.ensures.told start past r in (
+      let o = c.out.ensures.reported start past r in (
         Out c.args.bytes.now o.0 ∷ [],
         o.1,
         gives c.args.bytes.now o.0 c.data_status_of.result (sym c.is_empty.ensures ∙ c.if-is_empty.false) (c.data_status_of.ensures ∙ ap data_status_of o.2),

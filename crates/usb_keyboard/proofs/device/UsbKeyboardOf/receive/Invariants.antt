@@ -2,7 +2,7 @@ use Rattle.std.proofs.Common.{◌≡◌, ◌++◌, List, ℕ, ◌*◌, ◌≤◌
 use Rattle.keyboard.specs.Calls.{Call}
 use Rattle.usb_device.specs.WholeReads.{joined, GoOn}
 use Rattle.usb_keyboard.specs.Whole.{in_calls}
-use Rattle.usb_keyboard.specs.ties.Stands.{RunsSince}
+use Rattle.usb_keyboard.specs.representation.Relation.{RunsSince}
 use Rattle.usb_keyboard.proofs.device.UsbKeyboardOf.receive.Given as goal
 
 abbrev pub invariant-loop-packet : goal.invariant-loop-packet

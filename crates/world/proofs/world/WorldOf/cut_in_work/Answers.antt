@@ -4,20 +4,20 @@ use Rattle.world.specs.Asked.{noted}
 use Rattle.world.specs.History.{session}
 use Rattle.flash_model.specs.Operated.{IsOperated}
 use Rattle.page_turnover.specs.Next.{on_flash}
-use Rattle.world.proofs.Standing.{same_flash, on_bench, works_in, noted_next, cut_inside, arms}
+use Rattle.world.proofs.Standing.{same_flash, on_injector, works_in, noted_next, cut_inside, arms}
 use Rattle.world.proofs.world.WorldOf.cut_in_work.Goals as goal
 
 pub returns : goal.returns
 returns g c start past s =
     let t = rw (← c.self.view_is) at s in
     let image = same_flash g.D.Defaults.defaults start past _ t in
-    rw c.start_anew.ensures.told
+    rw c.start_anew.ensures.reported
     (cut_inside g.D.Defaults.defaults start past _ c.args.mask.now c.work.result c.start_anew.new.keyboard c.start_anew.new.host c.work.new.flash.flash c.work.new.flash.asked t
-    (works_in g.D.Defaults.defaults start past _ (armed_by c.copy_of.result.items c.self.inside.bench.flash) _ c.work.result c.work.new.flash.flash t
+    (works_in g.D.Defaults.defaults start past _ (armed_by c.copy_of.result.items c.self.inside.injector.flash) _ c.work.result c.work.new.flash.flash t
     (c.work.ensures.answer _ _ t.keyboard image) (arms g.D.Defaults.defaults start past _ _ _ c.copy_of.ensures t)
-    (λ n. on_bench g.D.Defaults.defaults (session start past) (armed_by c.copy_of.result.items c.self.inside.bench.flash) c.work.result c.work.new.flash.flash
+    (λ n. on_injector g.D.Defaults.defaults (session start past) (armed_by c.copy_of.result.items c.self.inside.injector.flash) c.work.result c.work.new.flash.flash
     (λ operation. (c.work.new.flash.tear ≡ None) × (c.work.new.flash.asked ≡ Some (noted (on_flash operation)))) (c.work.ensures.operated _ _ t.keyboard image n)) (λ i. ap (λ b. b.flash) (c.work.ensures.untouched i)) (λ n. (c.work.ensures.faultless n).1))
-    c.start_anew.ensures.stands (c.start_anew.ensures.host _ t.host)
+    c.start_anew.ensures.refines (c.start_anew.ensures.host _ t.host)
     (noted_next g.D.Defaults.defaults (session start past) c.work.result c.work.new.flash.flash.image c.work.new.flash.asked
-    (λ operation. IsOperated (armed_by c.copy_of.result.items c.self.inside.bench.flash) (on_flash operation) c.work.new.flash.flash) (c.work.new.flash.tear ≡ None)
+    (λ operation. IsOperated (armed_by c.copy_of.result.items c.self.inside.injector.flash) (on_flash operation) c.work.new.flash.flash) (c.work.new.flash.tear ≡ None)
     (c.work.ensures.answer _ _ t.keyboard image) (c.work.ensures.operated _ _ t.keyboard image) (λ i. ap (λ b. b.asked) (c.work.ensures.untouched i))))

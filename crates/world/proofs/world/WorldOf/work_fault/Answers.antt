@@ -4,7 +4,7 @@ use Rattle.world.specs.Asked.{noted}
 use Rattle.world.specs.History.{session}
 use Rattle.flash_model.specs.Operated.{IsOperated}
 use Rattle.page_turnover.specs.Next.{on_flash}
-use Rattle.world.proofs.Standing.{same_flash, on_bench, works_in, noted_next, faulted, arms}
+use Rattle.world.proofs.Standing.{same_flash, on_injector, works_in, noted_next, faulted, arms}
 use Rattle.world.proofs.world.WorldOf.work_fault.Goals as goal
 
 pub returns : goal.returns
@@ -12,11 +12,11 @@ returns g c start past s =
     let t = rw (← c.self.view_is) at s in
     let image = same_flash g.D.Defaults.defaults start past _ t in
     rw c.just.ensures
-    (faulted g.D.Defaults.defaults start past _ c.args.tear.now c.work-work.result c.work-work.new.self c.work-work.new.flash.flash c.work-work.new.flash.asked t (c.work-work.ensures.stands _ _ t.keyboard image)
-    (works_in g.D.Defaults.defaults start past _ (armed_by c.copy_of.result.items c.self.inside.bench.flash) _ c.work-work.result c.work-work.new.flash.flash t
+    (faulted g.D.Defaults.defaults start past _ c.args.tear.now c.work-work.result c.work-work.new.self c.work-work.new.flash.flash c.work-work.new.flash.asked t (c.work-work.ensures.refines _ _ t.keyboard image)
+    (works_in g.D.Defaults.defaults start past _ (armed_by c.copy_of.result.items c.self.inside.injector.flash) _ c.work-work.result c.work-work.new.flash.flash t
     (c.work-work.ensures.answer _ _ t.keyboard image) (arms g.D.Defaults.defaults start past _ _ _ c.copy_of.ensures t)
-    (λ n. on_bench g.D.Defaults.defaults (session start past) (armed_by c.copy_of.result.items c.self.inside.bench.flash) c.work-work.result c.work-work.new.flash.flash
+    (λ n. on_injector g.D.Defaults.defaults (session start past) (armed_by c.copy_of.result.items c.self.inside.injector.flash) c.work-work.result c.work-work.new.flash.flash
     (λ operation. (c.work-work.new.flash.tear ≡ None) × (c.work-work.new.flash.asked ≡ Some (noted (on_flash operation)))) (c.work-work.ensures.operated _ _ t.keyboard image n)) (λ i. ap (λ b. b.flash) (c.work-work.ensures.untouched i)) (λ n. (c.work-work.ensures.faultless n).1))
     (noted_next g.D.Defaults.defaults (session start past) c.work-work.result c.work-work.new.flash.flash.image c.work-work.new.flash.asked
-    (λ operation. IsOperated (armed_by c.copy_of.result.items c.self.inside.bench.flash) (on_flash operation) c.work-work.new.flash.flash) (c.work-work.new.flash.tear ≡ None)
+    (λ operation. IsOperated (armed_by c.copy_of.result.items c.self.inside.injector.flash) (on_flash operation) c.work-work.new.flash.flash) (c.work-work.new.flash.tear ≡ None)
     (c.work-work.ensures.answer _ _ t.keyboard image) (c.work-work.ensures.operated _ _ t.keyboard image) (λ i. ap (λ b. b.asked) (c.work-work.ensures.untouched i))))

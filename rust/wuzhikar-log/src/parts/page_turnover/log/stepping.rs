@@ -27,14 +27,14 @@ impl Log {
     ///
     /// Makes the one operation that is pending, or none where nothing is.
     ///
-    /// The flash has to be the one that the log describes. A turn first erases its target if that is
+    /// The flash has to be the one that the log describes. A compaction first erases its target if that is
     /// not blank, and what is pending stays so. A copy goes to the slot after those made before it,
-    /// from slot 1 on. The seal programs slot 0 with the header of the next sequence number, 1 without
-    /// an active page, in format 2, which commits the turn: the copies are then the words.
+    /// from slot 1 on. The commit header programs slot 0 with the header of the next sequence number, 1 without
+    /// an active page, in format 2, which commits the compaction: the copies are then the words.
     ///
     /// After a fault the slot or the page is read back. Where it reads as intended the operation
     /// counts as done; where it does not, and only there, the answer is `Failed`. The words are then
-    /// as before; an append or a turn has to be begun anew, and a turn then erases what it wrote.
+    /// as before; an append or a compaction has to be begun anew, and a compaction then erases what it wrote.
     pub fn step<F: NorFlash>(&mut self, flash: &mut F) -> Step {
         let Some(operation) = self.next(flash) else {
             return Step::Idle;
@@ -71,7 +71,7 @@ impl Log {
         }
     }
 
-    /// A word goes to a slot of a turn's target, or the target is erased first.
+    /// A word goes to a slot of a compaction's target, or the target is erased first.
     fn on_target<F: NorFlash>(&self, flash: &F, target: Target, slot: u16, word: u32) -> Operation {
         let page = self.target(flash);
         if is_ready(flash, page, target) {
@@ -151,7 +151,7 @@ impl Log {
         Step::Failed
     }
 
-    /// The page that a turn writes.
+    /// The page that a compaction writes.
     fn target<F: NorFlash>(&self, flash: &F) -> u8 {
         let pages = flash.pages();
         match self.active {
@@ -190,7 +190,7 @@ fn passed_over<F: NorFlash>(flash: &F, active: ActivePage) -> ActivePage {
     }
 }
 
-/// How many copies a turn's target holds.
+/// How many copies a compaction's target holds.
 fn copies_of(target: Target) -> u16 {
     match target {
         Target::Holds(copied) => copied,
@@ -198,7 +198,7 @@ fn copies_of(target: Target) -> u16 {
     }
 }
 
-/// Whether a turn's target holds its copies, or is blank before the first: else it is erased.
+/// Whether a compaction's target holds its copies, or is blank before the first: else it is erased.
 fn is_ready<F: NorFlash>(flash: &F, page: u8, target: Target) -> bool {
     match target {
         Target::Holds(_) => true,

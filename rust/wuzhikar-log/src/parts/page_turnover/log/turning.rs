@@ -5,7 +5,7 @@ use super::{Log, Target, Task};
 use crate::parts::page_turnover::header::LAST_SEQ;
 use crate::parts::flash_model::PAGE_SLOTS;
 
-/// Why no turn was begun.
+/// Why no compaction was begun.
 #[derive(Clone, Copy, Debug, PartialEq, Eq)]
 pub enum TurnRefusal {
     /// Slot 0 of a page is not sound.
@@ -20,15 +20,15 @@ impl Log {
         self.task = Task::Append(word);
     }
 
-    /// Begins a turn to the page after the active one, or to page 0 without one. The turn then wants
-    /// its copies and its seal. Refused are first `Unsound` and then `Worn`, and nothing changes.
+    /// Begins a compaction to the page after the active one, or to page 0 without one. The compaction then wants
+    /// its copies and its commit header. Refused are first `Unsound` and then `Worn`, and nothing changes.
     pub(crate) fn begin_turn(&mut self) -> Result<(), TurnRefusal> {
         self.may_turn()?;
         self.task = Task::Wait(Target::Unread);
         Ok(())
     }
 
-    /// Whether a turn may begin, or the first reason why not.
+    /// Whether a compaction may begin, or the first reason why not.
     fn may_turn(&self) -> Result<(), TurnRefusal> {
         if self.unsound.is_some() {
             return Err(TurnRefusal::Unsound);
@@ -39,7 +39,7 @@ impl Log {
         }
     }
 
-    /// Whether a turn is under way, and neither a copy nor its seal is pending.
+    /// Whether a compaction is under way, and neither a copy nor its commit header is pending.
     pub fn wants(&self) -> bool {
         match self.task {
             Task::Wait(_) => true,
@@ -47,7 +47,7 @@ impl Log {
         }
     }
 
-    /// Whether a turn is under way that wants a copy or its seal and has made fewer than 511 copies,
+    /// Whether a compaction is under way that wants a copy or its commit header and has made fewer than 511 copies,
     /// so that it can take one more.
     pub fn wants_copy(&self) -> bool {
         match self.task {
@@ -57,7 +57,7 @@ impl Log {
         }
     }
 
-    /// Offers the next word to copy to a turn that wants one and has made fewer than 511 copies
+    /// Offers the next word to copy to a compaction that wants one and has made fewer than 511 copies
     /// (`wants_copy`); the next step that does not erase the target programs it.
     pub(crate) fn offer_copy(&mut self, word: u32) {
         if let Task::Wait(target) = self.task {
@@ -65,7 +65,7 @@ impl Log {
         }
     }
 
-    /// Ends the copies of a turn that wants one: the header is next, and commits the turn.
+    /// Ends the copies of a compaction that wants one: the header is next, and commits the compaction.
     pub(crate) fn seal(&mut self) {
         if let Task::Wait(target) = self.task {
             self.task = Task::Seal(target);

@@ -1,0 +1,4 @@
+-- Representation: the files of this folder.
+pub mod ReadData
+pub mod Relation
+pub mod Views

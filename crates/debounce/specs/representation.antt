@@ -1,0 +1,4 @@
+-- Representation: the files of this folder.
+pub mod Kept
+pub mod Rows
+pub mod Relation

@@ -1,5 +1,0 @@
-use Rattle.descriptor_parse.proofs.CutLemmas.{has_cut}
-use Rattle.descriptor_parse.proofs.laws.has_cut.Goals as goal
-
-pub returns : goal.returns
-returns c = has_cut

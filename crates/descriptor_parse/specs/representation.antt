@@ -1,0 +1,19 @@
+-- Representation: the files of this folder.
+pub mod CountsRefine
+pub mod Descriptor
+pub mod DescriptorView
+pub mod Fed
+pub mod FieldsLeft
+pub mod GlobalsOf
+pub mod Linked
+pub mod LocalsRefine
+pub mod Parse
+pub mod Parts
+pub mod ReportsRefine
+pub mod StackRefines
+pub mod Refines
+pub mod StateRefines
+pub mod TagTable
+pub mod Totals
+pub mod WellFormed
+pub mod Written

@@ -1,5 +1,0 @@
-use Rattle.ecc_flash.proofs.Law.{one_word}
-use Rattle.ecc_flash.proofs.laws.no_other_word.Goals as goal
-
-pub returns : goal.returns
-returns c a b x y pa pb ca px py cx na nb = one_word a b x y pa pb ca px py cx na nb

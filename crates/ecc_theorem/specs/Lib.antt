@@ -1,0 +1,4 @@
+pub mod WorkCut
+pub mod Happenings
+pub mod Sessions
+pub mod representation

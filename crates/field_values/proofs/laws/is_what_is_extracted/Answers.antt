@@ -1,5 +1,0 @@
-use Rattle.field_values.proofs.Reading.{extracted}
-use Rattle.field_values.proofs.laws.is_what_is_extracted.Goals as goal
-
-pub returns : goal.returns
-returns c = extracted

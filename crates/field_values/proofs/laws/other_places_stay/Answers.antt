@@ -1,5 +1,0 @@
-use Rattle.field_values.proofs.Reading.{others_stay}
-use Rattle.field_values.proofs.laws.other_places_stay.Goals as goal
-
-pub returns : goal.returns
-returns c = others_stay

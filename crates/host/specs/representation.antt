@@ -1,0 +1,3 @@
+-- Representation: the files of this folder.
+pub mod Relation
+pub mod Refines

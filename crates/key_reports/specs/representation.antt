@@ -1,0 +1,4 @@
+-- Representation: the files of this folder.
+pub mod Edges
+pub mod Relation
+pub mod Value

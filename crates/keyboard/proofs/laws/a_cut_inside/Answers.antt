@@ -1,5 +1,0 @@
-use Rattle.keyboard.proofs.Cutting.{restarts_inside}
-use Rattle.keyboard.proofs.laws.a_cut_inside.Goals as goal
-
-pub returns : goal.returns
-returns c defaults start past keyboard operation image s n i m = restarts_inside defaults start past keyboard operation image s n i m

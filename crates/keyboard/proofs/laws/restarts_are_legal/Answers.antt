@@ -1,5 +1,0 @@
-use Rattle.keyboard.proofs.Restarting.{restarts_legally}
-use Rattle.keyboard.proofs.laws.restarts_are_legal.Goals as goal
-
-pub returns : goal.returns
-returns c defaults start past h = restarts_legally defaults start past h

@@ -1,0 +1,5 @@
+-- Representation: the files of this folder.
+pub mod Private
+pub mod Shown
+pub mod Relation
+pub mod Value

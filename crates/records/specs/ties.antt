@@ -1,2 +1,0 @@
--- Only ties code to its definitions: the files of this folder.
-pub mod Blocks

@@ -1,0 +1,4 @@
+-- Representation: the files of this folder.
+pub mod Lanes
+pub mod Listed
+pub mod Plans

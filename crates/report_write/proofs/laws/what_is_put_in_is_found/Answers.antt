@@ -1,5 +1,0 @@
-use Rattle.report_write.proofs.ArrayLaws.{put_in_is_found}
-use Rattle.report_write.proofs.laws.what_is_put_in_is_found.Goals as goal
-
-pub returns : goal.returns
-returns c = put_in_is_found

@@ -1,5 +1,0 @@
-use Rattle.report_write.proofs.ArrayLaws.{taken_out_is_gone}
-use Rattle.report_write.proofs.laws.what_is_taken_out_is_gone.Goals as goal
-
-pub returns : goal.returns
-returns c = taken_out_is_gone

@@ -1,5 +1,0 @@
-use Rattle.report_write.proofs.LawsHold.{written_as_read}
-use Rattle.report_write.proofs.laws.what_was_read_is_written_back.Goals as goal
-
-pub returns : goal.returns
-returns c = written_as_read

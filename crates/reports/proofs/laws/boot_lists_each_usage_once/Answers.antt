@@ -1,5 +1,0 @@
-use Rattle.reports.proofs.Rising.{listed-exactly}
-use Rattle.reports.proofs.laws.boot_lists_each_usage_once.Goals as goal
-
-pub returns : goal.returns
-returns c = listed-exactly

@@ -1,5 +1,0 @@
-use Rattle.settings.proofs.Compacting.{all_of_them}
-use Rattle.settings.proofs.laws.compacted.Goals as goal
-
-pub returns : goal.returns
-returns c = all_of_them

@@ -1,5 +1,0 @@
--- Only ties code to its definitions: the files of this folder.
-pub mod Reading
-pub mod Store
-pub mod Whole
-pub mod Table

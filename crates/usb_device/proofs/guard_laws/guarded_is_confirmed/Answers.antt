@@ -1,5 +1,0 @@
-use Rattle.usb_device.proofs.Pacing.{confirmed}
-use Rattle.usb_device.proofs.guard_laws.guarded_is_confirmed.Goals as goal
-
-pub returns : goal.returns
-returns c = confirmed

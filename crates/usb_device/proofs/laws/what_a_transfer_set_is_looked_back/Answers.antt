@@ -1,5 +1,0 @@
-use Rattle.usb_device.proofs.Stating.{standing}
-use Rattle.usb_device.proofs.laws.what_a_transfer_set_is_looked_back.Goals as goal
-
-pub returns : goal.returns
-returns c = λ lent past all. (standing lent past all).renewed

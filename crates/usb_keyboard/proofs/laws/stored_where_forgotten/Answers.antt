@@ -1,5 +1,0 @@
-use Rattle.usb_keyboard.proofs.Forgotten as forgotten
-use Rattle.usb_keyboard.proofs.laws.stored_where_forgotten.Goals as goal
-
-pub returns : goal.returns
-returns c = forgotten.stored_where_forgotten

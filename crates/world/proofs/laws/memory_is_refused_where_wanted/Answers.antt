@@ -1,5 +1,0 @@
-use Rattle.world.proofs.Wanting.{refused_where_wanted}
-use Rattle.world.proofs.laws.memory_is_refused_where_wanted.Goals as goal
-
-pub returns : goal.returns
-returns c defaults start history h = refused_where_wanted defaults start history h
