@@ -279,17 +279,17 @@ static void each_work(void)
         came_to = kb_work();
         mark_end();
     }
-    told("work in a turnover", 1);
+    told("work in a compaction", 1);
 }
 
-static void turnovers(void)
+static void compactions(void)
 {
     blank(2);
     kb_start();
     fill();
     flash_erase(1);
     command(0, 0, 0x4300);
-    SAMPLE("turnover of 384 copies, the next page blank", 1, 1, work());
+    SAMPLE("compaction of 384 copies, the next page blank", 1, 1, work());
     SAMPLE("start, 2 pages, 385 records", 1, 1, kb_start());
     must(kb_entry(0, 0) == 0x4300);
     flash_erase(1);
@@ -320,6 +320,6 @@ void make_calls(void)
     requests();
     boot_protocol();
     commands();
-    turnovers();
+    compactions();
     full_pages();
 }

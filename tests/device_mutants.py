@@ -24,22 +24,22 @@ sys.path[:0] = [f"{ROOT}/tools", f"{ROOT}/tools/export_rust"]
 from changes import replace_once  # noqa: E402
 from debian_crates import OF_PROGRAM, environment  # noqa: E402
 
-EDITS = f"{ROOT}/tests/device_mutants"
+MUTANTS = f"{ROOT}/tests/device_mutants"
 SECONDS = 100  # a program that takes so many seconds of the processor, which takes one or two, hangs; that kills it
 
 
-def read_edit(path):
-    """The file, the old and the new text of an edit. A text may have several lines."""
+def read_mutant(path):
+    """The file, the old and the new text of a mutant. A text may have several lines."""
     with open(path, encoding="utf-8") as file:
         found = re.fullmatch(r"file: (\S+)\nold: (.*?)\nnew: (.*)\n", file.read(), re.DOTALL)
     if not found:
-        sys.exit(f"{path} is no edit")
+        sys.exit(f"{path} is no mutant")
     return found.groups()
 
 
-def apply(edit, crate):
-    """Writes an edit into a copy of the crate; gives the file's path and what it held."""
-    name, old, new = edit
+def apply(mutant, crate):
+    """Writes a mutant into a copy of the crate; gives the file's path and what it held."""
+    name, old, new = mutant
     path = f"{crate}/{name}"
     return path, replace_once(path, old, new)
 
@@ -51,11 +51,11 @@ def write(path, text):
 
 
 class Worker(threading.Thread):
-    """Takes edits from a queue, and tries them one after the other in its copy."""
+    """Takes mutants from a queue, and tries them one after the other in its copy."""
 
-    def __init__(self, work, tries, told):
+    def __init__(self, work, tries, found):
         super().__init__(daemon=True)
-        self.rust, self.tries, self.told = f"{work}/rust", tries, told
+        self.rust, self.tries, self.found = f"{work}/rust", tries, found
         ignored = shutil.ignore_patterns("target", "Cargo.lock")
         shutil.copytree(f"{ROOT}/rust", self.rust, ignore=ignored)
         self.environment = environment(work, *OF_PROGRAM)
@@ -76,24 +76,24 @@ class Worker(threading.Thread):
                 path = self.tries.get_nowait()
             except queue.Empty:
                 return
-            self.told.put((path, *self.one(path)))
+            self.found.put((path, *self.one(path)))
 
     def one(self, path):
-        """Tries an edit: whether it is as it should be, and why."""
+        """Tries a mutant: whether it is as it should be, and why."""
         right = os.path.basename(os.path.dirname(path)) == "right"
         try:
-            changed, text = apply(read_edit(path), f"{self.rust}/wuzhikar-device")
+            changed, text = apply(read_mutant(path), f"{self.rust}/wuzhikar-device")
         except ValueError as error:
             return False, str(error)
         try:
-            status, told = self.cargo()
+            status, found = self.cargo()
         finally:
             write(changed, text)
         if status is None:
             return not right, "it hangs"
-        if "could not compile" in told:
+        if "could not compile" in found:
             return False, "it does not build"
-        refused = sorted(set(re.findall(r"^    (\S+::\S+)$", told, re.MULTILINE)))
+        refused = sorted(set(re.findall(r"^    (\S+::\S+)$", found, re.MULTILINE)))
         if status == 0:
             return right, "it survives"
         return not right and bool(refused), f"killed by {', '.join(refused[:2])}" + (" .." if len(refused) > 2 else "")
@@ -101,27 +101,27 @@ class Worker(threading.Thread):
 
 def main():
     words = argparse.ArgumentParser(description=__doc__, formatter_class=argparse.RawDescriptionHelpFormatter)
-    words.add_argument("names", nargs="*", help="edits to be tried; all of them without a name")
+    words.add_argument("names", nargs="*", help="mutants to be tried; all of them without a name")
     words.add_argument("--workers", type=int, default=3, help="how many tries at once (3)")
     given = words.parse_args()
-    paths = sorted(glob.glob(f"{EDITS}/*.edit") + glob.glob(f"{EDITS}/right/*.edit"))
+    paths = sorted(glob.glob(f"{MUTANTS}/*.edit") + glob.glob(f"{MUTANTS}/right/*.edit"))
     if given.names:
         known = {os.path.basename(path)[:-5]: path for path in paths}
         for name in given.names:
             if name not in known:
-                words.error(f"tests/device_mutants has no edit {name!r}")
+                words.error(f"tests/device_mutants has no mutant {name!r}")
         paths = [known[name] for name in given.names]
-    tries, told = queue.Queue(), queue.Queue()
+    tries, found = queue.Queue(), queue.Queue()
     for path in paths:
         tries.put(path)
     failed = []
     with tempfile.TemporaryDirectory() as work:
         for number in range(given.workers):
             os.mkdir(f"{work}/{number}")
-            Worker(f"{work}/{number}", tries, told).start()
+            Worker(f"{work}/{number}", tries, found).start()
         for _ in paths:
-            path, well, why = told.get()
-            name = os.path.relpath(path, EDITS)
+            path, well, why = found.get()
+            name = os.path.relpath(path, MUTANTS)
             print(f"{name}: {why}" + ("" if well else "  <-- NOT AS IT SHOULD BE"), flush=True)
             failed += [] if well else [name]
     right = sum("/right/" in path for path in paths)

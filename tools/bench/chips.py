@@ -7,10 +7,10 @@ from builds import Builds
 from results import Row
 
 # Calls that may be repeated within a scan's time; what starts the device or works on the flash has a bound of its own.
-LONG = ("start", "restart", "work", "command with room", "turnover")
+LONG = ("start", "restart", "work", "command with room", "compaction")
 
 # Of these the worst one counts, of the others the mean; where each key is tried the worst is shown beside it.
-WORST = {"scan without an edge": "the worst of 10,000", "work in a turnover": "the longest call"}
+WORST = {"scan without an edge": "the worst of 10,000", "work in a compaction": "the longest call"}
 EACH_KEY = " one key, and the poll"
 
 

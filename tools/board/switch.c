@@ -52,7 +52,7 @@ struct told {
     uint64_t kind; // 0 a start, 1 a cut
     uint64_t ticks, instructions, operations;
     uint64_t inside; // 0 between two operations, 1 inside a program, 2 inside an erase
-    uint64_t not_blank, often, outside; // promises to the flash that were broken
+    uint64_t not_blank, often, outside; // rules of the flash that were broken
     uint64_t erases, stack, log;
     uint64_t start, longest; // instructions up to the first look at the line, and the most between two looks since the last order
 };

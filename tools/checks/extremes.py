@@ -15,7 +15,7 @@ import sys
 
 ROOT = os.path.dirname(os.path.dirname(os.path.dirname(os.path.abspath(__file__))))
 LIST = "tests/extremes.txt"
-# Crates of tests, of examples, and what judges others: nothing that is promised is in them.
+# Crates of tests, of examples, and test oracles: no guarantee is about them.
 LEFT_OUT = re.compile(r".*_example|acceptance")
 # What takes memory, reads or writes. The methods of arrayvec whose names begin with `try_` take none.
 CALL = re.compile(

@@ -31,7 +31,7 @@ UNPROVED = "export-rust: no proof was checked: run `rt verdict` in the crates of
 BANNER = "// Exported from crates/{} by bin/export-rust. Edit that file instead.\n"
 
 PARTS = """// Written by bin/export-rust.
-//! The crates of the proved source, for the crates of this workspace. **No part of the promise**: what is here changes
+//! The crates of the proved source, for the crates of this workspace. **Not part of the stable interface**: what is here changes
 //! without a word, and has calls with a condition on their caller that nothing checks.
 #![allow(dead_code, unused_imports, unused_variables, clippy::all)]
 

@@ -113,7 +113,7 @@ class Rewriter:
         return text
 
     def note_call(self, tokens, at, last):
-        """Notes the trait by which a crate above makes a call that is no promise: `.name(`, or `Type::name(`."""
+        """Notes the trait by which a crate above makes a call outside the stable interface: `.name(`, or `Type::name(`."""
         of = text_at(tokens, before(tokens, before(tokens, at)))
         for crate in self.neighbours:
             holder = self.holder.holder(crate)

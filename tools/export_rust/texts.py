@@ -1,6 +1,6 @@
 """Report descriptors in hex, made from a number: the same number gives the same text on every machine.
 
-Most are nearly lawful: some are accepted, and all faults of docs/formats.md come up.
+Most are nearly well-formed: some are accepted, and all faults of docs/formats.md come up.
 """
 
 import random

@@ -1,4 +1,4 @@
-"""Cores that are broken on purpose: the page's own, with a line of web/core changed as an edit says."""
+"""Cores that are broken on purpose: the page's own, with a line of web/core changed as a mutant says."""
 
 import hashlib
 import pathlib
@@ -12,7 +12,7 @@ KEPT = core.ROOT / "out/page/broken"
 
 
 def edited(text, edit):
-    """A file's text with the one line that an edit replaces."""
+    """A file's text with the one line that a mutant replaces."""
     old, new = edit["old"], edit["new"]
     if text.count(old) != 1:
         raise AssertionError(f"{edit['name']}: {edit['file']} has {text.count(old)} times, not once: {old.strip()}")

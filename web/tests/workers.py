@@ -20,7 +20,7 @@ class Outcome(NamedTuple):
     notes: list[str]
 
 
-def judged(test):
+def verdict_of(test):
     """Runs a test."""
     result, begun = unittest.TestResult(), time.monotonic()
     test.run(result)
@@ -36,7 +36,7 @@ def work(tests, pipe):
     try:
         for number, pressed in iter(pipe.recv, None):
             support.PRESSED.update(pressed)
-            pipe.send(judged(tests[number]))
+            pipe.send(verdict_of(tests[number]))
     finally:
         support.end()
 

@@ -1,5 +1,5 @@
 // SPDX-License-Identifier: MIT OR Apache-2.0
-//! The program around a keyboard on a bus: its words, the doors to hosts, and the hands.
+//! The program around a keyboard on a bus: its words, the entry points of hosts, and the hands.
 
 use crate::on_bus::OnBus;
 use crate::run::{Event, Run, named};

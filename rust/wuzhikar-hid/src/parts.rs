@@ -1,5 +1,5 @@
 // Written by bin/export-rust.
-//! The crates of the proved source, for the crates of this workspace. **No part of the promise**: what is here changes
+//! The crates of the proved source, for the crates of this workspace. **Not part of the stable interface**: what is here changes
 //! without a word, and has calls with a condition on their caller that nothing checks.
 #![allow(dead_code, unused_imports, unused_variables, clippy::all)]
 

@@ -1,3 +1,3 @@
-//! What stands for parts of Rattle's library. Written by hand. **No part of the promise.**
+//! What stands for parts of Rattle's library. Written by hand. **Not part of the stable interface.**
 
 pub use wuzhikar_reader::rattle::{Vec, alloc, memory, vec};

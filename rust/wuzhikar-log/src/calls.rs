@@ -1,5 +1,5 @@
 //! Calls with a condition on their caller that nothing checks, for the crates of this workspace. Written by hand.
-//! **No part of the promise.**
+//! **Not part of the stable interface.**
 
 use crate::parts::page_turnover::{Log, TurnRefusal};
 

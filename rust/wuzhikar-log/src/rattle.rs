@@ -1,4 +1,4 @@
-//! What stands for parts of Rattle's library. Written by hand. **No part of the promise.**
+//! What stands for parts of Rattle's library. Written by hand. **Not part of the stable interface.**
 
 pub mod simd;
 

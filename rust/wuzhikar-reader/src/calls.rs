@@ -1,5 +1,5 @@
-//! Calls that take what stands for the source's allocator, for the crates of this workspace. Written by hand. **No part of
-//! the promise.**
+//! Calls that take what stands for the source's allocator, for the crates of this workspace. Written by hand. **Not part of
+//! the stable interface.**
 
 use crate::parts::descriptor_parse::Parser;
 use crate::rattle::alloc::Global;

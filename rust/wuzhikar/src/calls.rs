@@ -1,5 +1,5 @@
 //! Calls with a condition on their caller that nothing checks, and calls that take what stands for the source's allocator,
-//! for the crates of this workspace. Written by hand. **No part of the promise.**
+//! for the crates of this workspace. Written by hand. **Not part of the stable interface.**
 
 use crate::parts::debounce::{Debouncer, Scan};
 use crate::parts::keyboard::{KeyboardOf, Room};

@@ -1,5 +1,5 @@
 // SPDX-License-Identifier: MIT OR Apache-2.0
-//! Random settings, faults and cuts of the power, and the judge of what is there afterwards.
+//! Random settings, faults and cuts of the power, and the oracle of what is there afterwards.
 
 use std::collections::BTreeMap;
 use std::fmt;
@@ -77,28 +77,28 @@ pub fn run<A: Adapter>(seed: u64, cuts: u64) -> Result<Tally, Broken> {
     let power = Power::with_faults([None, Some(32), Some(1000)][random.below(3)]);
     let pages = 2 + random.below(7);
     let mut chip = A::blank(pages, power.clone(), random.next());
-    let mut judge = Judge::new(&mut random);
+    let mut oracle = Oracle::new(&mut random);
     for cut in 0..cuts {
-        judge.tally.cuts = cut;
+        oracle.tally.cuts = cut;
         // Most cuts come soon, some so late that a compaction comes to its end.
         let bound = [4, 30, 200, 800][random.below(4)];
         power.on(random.below(bound) as u64);
         let mut settings = mounted(A::start(chip, pages));
-        judge.starts(&settings)?;
+        oracle.starts(&settings)?;
         while !power.is_off() {
-            judge.change(&mut settings, &mut random, &power)?;
+            oracle.change(&mut settings, &mut random, &power)?;
         }
         if let Some(how) = power.misuse() {
             return Err(Broken::Misuse { cut, how });
         }
         chip = settings.into_flash().stop();
     }
-    judge.starts(&mounted(A::start(chip, pages)))?;
-    Ok(Tally { cuts, cut_erases: power.cut_erases(), faults: power.faults(), ..judge.tally })
+    oracle.starts(&mounted(A::start(chip, pages)))?;
+    Ok(Tally { cuts, cut_erases: power.cut_erases(), faults: power.faults(), ..oracle.tally })
 }
 
 /// What every id has to have, and the changes that a cut came into.
-struct Judge {
+struct Oracle {
     stored: Values,
     under_way: Vec<Change>,
     /// How many ids are in use.
@@ -106,10 +106,10 @@ struct Judge {
     tally: Tally,
 }
 
-impl Judge {
-    fn new(random: &mut Random) -> Judge {
+impl Oracle {
+    fn new(random: &mut Random) -> Oracle {
         let ids = [1, 4, 12][random.below(3)];
-        Judge { stored: Values::new(), under_way: Vec::new(), ids, tally: Tally::default() }
+        Oracle { stored: Values::new(), under_way: Vec::new(), ids, tally: Tally::default() }
     }
 
     /// The settings after a start: what was stored, or that with all changes that were under way.

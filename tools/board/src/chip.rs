@@ -252,7 +252,7 @@ impl Chip {
         self.flash[from..].copy_from_slice(&bytes);
     }
 
-    /// What the switch told at the cut: whether the firmware broke a promise to the flash.
+    /// What the switch told at the cut: whether the firmware broke a rule of the flash.
     pub fn keeps_its_bounds(&self) -> std::result::Result<(), Lost> {
         let [not_blank, often, outside] = self.told.broken;
         if self.told.broken != [0; 3] || self.flash[..self.log()].iter().any(|byte| *byte != BESIDE) {

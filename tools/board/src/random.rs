@@ -127,7 +127,7 @@ fn another<'d>(chip: &mut Chip, numbers: &mut Numbers, counts: &mut Counts, defa
     if records == 0 {
         bytes.fill(0xff);
     }
-    // What something else has left in a flash with error correction is outside of what is promised of it.
+    // What something else has left in a flash with error correction is outside of the guarantee.
     let damaged = numbers.below(8) == 0 && !chip.corrects();
     for _ in 0..if damaged { 1 + numbers.below(40) } else { 0 } {
         let at = if numbers.below(4) == 0 { numbers.below(8) } else { numbers.below(LOG as u64 / 2) } as usize;

@@ -35,12 +35,12 @@ pub struct Wrong<F> {
     flash: F,
     way: Way,
     /// What reads as it was meant until the next operation: page, unit and bytes.
-    believed: Option<(usize, usize, Unit)>,
+    trusted: Option<(usize, usize, Unit)>,
 }
 
 impl<F: EccFlash> Wrong<F> {
     pub fn new(flash: F, way: Way) -> Wrong<F> {
-        Wrong { flash, way, believed: None }
+        Wrong { flash, way, trusted: None }
     }
 
     fn place(&self, unit: usize) -> usize {
@@ -59,7 +59,7 @@ impl<F: EccFlash> EccFlash for Wrong<F> {
 
     fn read_unit(&self, page: usize, unit: usize) -> Option<Unit> {
         let read = self.flash.read_unit(page, self.place(unit));
-        match (self.way, self.believed) {
+        match (self.way, self.trusted) {
             (_, Some((of, at, bytes))) if (of, at) == (page, unit) => Some(bytes),
             (Way::AnErrorReadsAsBlank, _) => read.or(Some(BLANK)),
             (Way::AnErrorInTheSecondUnitReadsAsFree, _) if self.is_error(page, unit | 1) => Some(BLANK),
@@ -71,7 +71,7 @@ impl<F: EccFlash> EccFlash for Wrong<F> {
         let at = self.place(unit);
         match self.way {
             Way::NothingIsEverStored => return Err(FlashFault),
-            Way::AProgramIsNotReadBack => self.believed = Some((page, unit, bytes)),
+            Way::AProgramIsNotReadBack => self.trusted = Some((page, unit, bytes)),
             Way::APageWithAnErrorIsErased if (0..PAGE_UNITS).any(|unit| self.is_error(page, unit)) => {
                 self.flash.erase_units(page)?;
             }
@@ -81,7 +81,7 @@ impl<F: EccFlash> EccFlash for Wrong<F> {
     }
 
     fn erase_units(&mut self, page: usize) -> Result<(), FlashFault> {
-        self.believed = None;
+        self.trusted = None;
         self.flash.erase_units(page)
     }
 }

@@ -6,7 +6,7 @@
 //! in = sets idle All 00     the empty packet, which sets an idle value; or `sets protocol Boot`
 //! out BYTES = ack           an OUT packet; `nak`, `leds BYTE` and `offer BYTES` are further answers
 //! out BYTES = stall REASON  by the name in `Why`
-//! judge done = ack          what becomes of a report that was offered: `done`, `working`, `busy`, `refused REASON`
+//! verdict done = ack          what becomes of a report that was offered: `done`, `working`, `busy`, `refused REASON`
 //! settle                    the command that works ends; `fail` and `reset` are calls too
 //! ```
 
@@ -82,7 +82,7 @@ fn call(ep: &mut ControlEp, row: &str) -> String {
                 OutStep::Offer(bytes) => format!("offer {}", hex(&bytes)),
             };
         }
-        ("judge", rest) => return answered(&ep.verdict(verdict(rest))),
+        ("verdict", rest) => return answered(&ep.verdict(verdict(rest))),
         ("settle", _) => ep.settle(),
         ("fail", _) => ep.fail(),
         ("reset", _) => ep.reset(),
@@ -265,7 +265,7 @@ const TRANSFERS: &str = "
     # a feature report that is refused
     setup 2109030300000600
     out 030400000000 = offer 0400000000
-    judge refused BadOperation = stall BadOperation
+    verdict refused BadOperation = stall BadOperation
     out 030100000500 = stall BadOperation
     in = stall BadOperation
 
@@ -292,7 +292,7 @@ const TRANSFERS: &str = "
     # a selection, and the entry that it selected
     setup 2109030300000600
     out 030000010000 = offer 0000010000
-    judge done = ack
+    verdict done = ack
     in = data -
     boot a101030300000600
     in = data 030000010500
@@ -301,9 +301,9 @@ const TRANSFERS: &str = "
     # a command: first another one works, then it does, then it has settled
     setup 2109030300000600
     out 030100000500 = offer 0100000500
-    judge busy = nak
+    verdict busy = nak
     out 030100000500 = offer 0100000500
-    judge working = ack
+    verdict working = ack
     in = nak
     in = nak
     settle
@@ -313,7 +313,7 @@ const TRANSFERS: &str = "
     # a command that fails
     setup 2109030300000600
     out 030100000500 = offer 0100000500
-    judge working = ack
+    verdict working = ack
     fail
     in = stall FlashFault
     out - = stall FlashFault
@@ -321,7 +321,7 @@ const TRANSFERS: &str = "
     # a packet out of place while a command works stalls its transfer for good
     setup 2109030300000600
     out 030100000500 = offer 0100000500
-    judge working = ack
+    verdict working = ack
     out 030100000500 = stall WrongStage
     settle
     in = stall WrongStage
@@ -329,7 +329,7 @@ const TRANSFERS: &str = "
     # a SETUP packet ends a transfer that waits, and the command's end is told to nobody
     setup 2109030300000600
     out 030100000500 = offer 0100000500
-    judge working = ack
+    verdict working = ack
     setup a103000000000100
     fail
     in = data 01
@@ -338,7 +338,7 @@ const TRANSFERS: &str = "
     # so does a reset
     setup 2109030300000600
     out 030100000500 = offer 0100000500
-    judge working = ack
+    verdict working = ack
     reset
     settle
     in = stall WrongStage
@@ -346,20 +346,20 @@ const TRANSFERS: &str = "
     # while a command works an LED report is taken
     setup 2109030300000600
     out 030100000500 = offer 0100000500
-    judge working = ack
+    verdict working = ack
     setup 2109010200000200
     out 0102 = leds 02
     in = data -
 
     # a verdict out of place stalls the transfer
-    judge done = stall WrongStage
+    verdict done = stall WrongStage
     setup 8106002200006300
-    judge busy = stall WrongStage
+    verdict busy = stall WrongStage
     in = stall WrongStage
 
     # and revives none
     setup 8000000000000200
-    judge done = stall UnknownRequest
-    judge working = stall UnknownRequest
+    verdict done = stall UnknownRequest
+    verdict working = stall UnknownRequest
     in = stall UnknownRequest
 ";

@@ -1,4 +1,4 @@
-//! Tests of the laws of reading and writing, over the descriptors of examples/hid_driver.
+//! Tests of the rules of reading and writing, over the descriptors of examples/hid_driver.
 
 use super::{Asked, Reader, Setting, Target, Within};
 use crate::parts::field_values::read_place;
