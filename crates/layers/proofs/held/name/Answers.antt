@@ -13,8 +13,8 @@ loop-key-init c = record {
 
 pub loop-key-preserved : goal.loop-key-preserved
 loop-key-preserved c =
-    let in_keys : c.in-Some.key < 96 = omega (arith, c.in-Some.ensures.within, c.reported-held) in
-    let there : c.in-Some.key < length c.args.codes.now = omega (arith, c.reported-codes, in_keys) in
+    let in_keys : c.in-Some.key < 96 = omega (arith, c.in-Some.ensures.within, c.told-held) in
+    let there : c.in-Some.key < length c.args.codes.now = omega (arith, c.told-codes, in_keys) in
     let d = c.index-codes-key.result in
     let code = get_or c.args.codes.now c.in-Some.key d in
     record {
