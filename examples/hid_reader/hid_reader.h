@@ -255,14 +255,13 @@ hidr_status hidr_applications_of(hidr_reader reader, uint8_t kind, uint8_t id, u
 /* Gets the numbers of the items of a report, in order, padding among them. HIDR_ABSENT if there is no such report. */
 hidr_status hidr_report_details(hidr_reader reader, uint8_t kind, uint8_t id, uint32_t *into, size_t room, size_t *count);
 
-/* What names a control for a person (HID 1.11, 6.2.2.8). */
-enum { HIDR_STRING = 0, HIDR_DESIGNATOR = 1 };
-
-/* Gets the strings or designators that the text gives the item at an offset, as ranges of numbers. A Minimum or Maximum
- * without its other half gives none; one over the other gives a range whose first number is over its last. HIDR_ABSENT where
- * `naming` is neither; HIDR_OVERLAP of text and ranges. */
-hidr_status hidr_namings(const uint8_t *text, size_t length, uint64_t offset, uint8_t naming, hidr_range *into, size_t room,
-                         size_t *count);
+/* Get the string indices and the designator indices of an item and of a collection, as ranges (HID 1.11, 6.2.2.8). A Minimum or
+ * Maximum without its other half gives none; one over the other gives a range whose first number is over its last. HIDR_ABSENT
+ * if there is no such item or collection. */
+hidr_status hidr_strings(hidr_reader reader, size_t item, hidr_range *into, size_t room, size_t *count);
+hidr_status hidr_designators(hidr_reader reader, size_t item, hidr_range *into, size_t room, size_t *count);
+hidr_status hidr_collection_strings(hidr_reader reader, size_t collection, hidr_range *into, size_t room, size_t *count);
+hidr_status hidr_collection_designators(hidr_reader reader, size_t collection, hidr_range *into, size_t room, size_t *count);
 
 /* Gets the exponents in an item's unit, -8 to 7, of length, mass, time, temperature, current and luminous intensity: six
  * numbers, all 0 where there is no unit. HIDR_ABSENT; HIDR_RESERVED_DIGIT, HIDR_NO_SYSTEM, HIDR_RESERVED_SYSTEM,

@@ -2,13 +2,11 @@
 //! exported from a proved source, but for the names of units and of types of collections: by hand, tested, not proved.
 
 mod facts;
-mod questions;
 
 pub use crate::parts::field_details::{
     Applications, Around, Collection, Detail, Details, Dimension, Placed, PlacedFields, ReportFacts, Reports, ReportsOf,
 };
 pub use facts::NoUnit;
-pub use questions::{Naming, namings};
 
 use crate::ReaderError;
 use crate::parts::field_details;

@@ -180,8 +180,7 @@
 //! report of another kind can't be told by its first byte.
 //!
 //! **Exported from a proved source: what a descriptor declares, and reports that are read and written.** The fields
-//! of [`Details`], its collections, its calls, the bits, extents and units of a [`Detail`], what [`namings`] gives,
-//! the value in its unit, and all that [`Reader::read`] and [`Reader::write`] do are in the hidden module `parts`,
+//! of [`Details`], its collections, its calls, the bits, extents and units of a [`Detail`], the value in its unit, and all that [`Reader::read`] and [`Reader::write`] do are in the hidden module `parts`,
 //! the text of crates that are proved in Rattle (Rust with contracts), as are the fields and their usages of
 //! `wuzhikar-reader`. **All else, names included, is written by hand: tested, not proved.** Tests compare it with a
 //! program in another language over some ten thousand descriptors. Any bytes may come: nothing panics on them. Where
@@ -203,8 +202,8 @@ pub mod usages;
 mod values;
 
 pub use crate::details::{
-    Applications, Around, Collection, Detail, Details, Dimension, Naming, NoUnit, Placed, PlacedFields, ReportFacts, Reports,
-    ReportsOf, details, namings,
+    Applications, Around, Collection, Detail, Details, Dimension, NoUnit, Placed, PlacedFields, ReportFacts, Reports,
+    ReportsOf, details,
 };
 pub use crate::names::{UsageName, page_name, usages_named};
 pub use crate::values::{
