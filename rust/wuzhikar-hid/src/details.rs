@@ -11,7 +11,7 @@ pub use facts::NoUnit;
 use crate::ReaderError;
 use crate::parts::field_details;
 
-/// Returns the attributes of all data items, the collections and the reports of a descriptor's text of at most 4,096 bytes.
+/// Reads the attributes of all data items, the collections and the reports from a descriptor's text of at most 4,096 bytes.
 ///
 /// It needs no [`Reader`](crate::Reader), which has them too.
 ///
