@@ -56,8 +56,8 @@ def sentence(rows):
     text, small = (next(row.ours for row in rows if row.key == (target, TEXT)) for target in CHIPS)
     stack = max(ours[name] for name in ("stack of start, restart and work, bytes", "stack of any other call, bytes"))
     return (f'On a Cortex-M4, at opt-level "s", the keyboard takes {ours["RAM of the keyboard, bytes"]:,} bytes of RAM and {stack:,} of '
-            f"stack. A scan takes {scan:,} instructions where no debounced key changes, of the {MILLISECOND:,} cycles of a millisecond at "
-            f"48 MHz. A start takes {min(starts):,} to {max(starts):,}, as the flash is blank or full. The smallest firmware, without drivers, has {text:,} "
+            f"stack. A scan takes {scan:,} instructions if no debounced key changes; a millisecond at 48 MHz has {MILLISECOND:,} cycles. "
+            f"A start takes {min(starts):,} on a blank flash, {max(starts):,} on a full one. The smallest firmware, without drivers, has {text:,} "
             f"bytes of code and constants, and {small:,} on a Cortex-M0+.")
 
 
