@@ -238,6 +238,13 @@ static void what_is_absent(hidr_reader r) {
     ANSWERS(HIDR_UNKNOWN_REPORT, hidr_buffered(r, 3, REPORT, 7, 2, to.bytes, 8, &to.count));
     ANSWERS(HIDR_ABSENT, hidr_buffered(r, 0, REPORT, 7, 0, to.bytes, 8, &to.count));
     ANSWERS(HIDR_ABSENT, hidr_buffered(r, HIDR_OUTPUT, REPORT, 7, 2, to.bytes, 8, &to.count));
+    UNTOUCHED(to);
+}
+
+/* Units and extents without a value in its unit. */
+static void no_units(hidr_reader r) {
+    struct outputs to;
+    FILL(to);
     ANSWERS(HIDR_EQUAL_LIMITS, hidr_physical(r, 3, 5, &to.fraction));
     ANSWERS(HIDR_EQUAL_LIMITS, hidr_decimal(r, 3, 5, 1, to.text, 8, &to.count));
     ANSWERS(HIDR_INVERTED_LIMITS, hidr_physical(r, 4, 5, &to.fraction));
@@ -447,6 +454,7 @@ int main(void) {
     null_pointers(reader);
     lengths_and_overlaps(reader);
     what_is_absent(reader);
+    no_units(reader);
     no_values(reader);
     what_is_told(reader);
     what_changes(reader);
