@@ -4,6 +4,7 @@ They run on the program that the variable KBSIM names, or else on bin/kbsim, and
 built: the proved one, and that of plain Rust.
 """
 
+import fcntl
 import os
 import re
 import subprocess
@@ -186,6 +187,17 @@ class Words(Calls):
                 status, _, said = self.call(words, "05", stdout=full)
                 told = (MISSING if "missing" in words else "") + "error: the output can't be written\n"
                 self.assertEqual((status, said), ((0, "") if words == ["parse", "hex"] else (1, told)))
+
+    @unittest.skipUnless(IS_PLAIN, "the proved program prints no items")
+    def test_items_that_are_lost_are_reported(self):
+        # Into a pipe that does not wait, and has room for the line of the fault alone.
+        reader, writer = os.pipe()
+        self.addCleanup(os.close, reader)
+        self.addCleanup(os.close, writer)
+        os.set_blocking(writer, False)
+        os.write(writer, bytes(fcntl.fcntl(writer, fcntl.F_GETPIPE_SZ) - 100))
+        status, _, said = self.call(["parse", "--items"], "05 01 75 08 95 01 81 00 c0", stdout=writer)
+        self.assertEqual((status, said), (1, "error: the output can't be written\n"))
 
     def test_what_was_not_printed_is_not_explained(self):
         with open("/dev/full", "wb") as full:

@@ -1,13 +1,13 @@
 // SPDX-License-Identifier: MIT OR Apache-2.0
-/* A reader of HID report descriptors and of reports (HID 1.11, sections 5.6 and 6.2.2). The first calls tell what fields
- * there are and which usages are on. Those from hidr_reader_open on tell what the fields mean, read the values of reports,
+/* A reader of HID report descriptors and of reports (HID 1.11, sections 5.6, 6.2.2 and 8.4). The first calls say what fields
+ * there are and which usages are on. Those from hidr_reader_open on say what the fields mean, read the values of reports,
  * and write reports.
  *
- * Each call returns a status: HIDR_OK, or a refusal. A refused call has written nothing behind a pointer (but the fault of a
- * text, at HIDR_FAULT, and the number of what hidr_write refuses), and has opened or closed no handle. Where several refusals
- * hold, the first one of this list is returned: HIDR_NULL, HIDR_LENGTH, the handle's, HIDR_OVERLAP, then those that are named
- * at the call, in that order. A call with a pointer may return HIDR_NULL, one with a count or a length HIDR_LENGTH, one with
- * a handle HIDR_NO_HANDLE, HIDR_CLOSED and HIDR_WRONG_KIND.
+ * Each call returns a status: HIDR_OK, or a refusal. A refused call opens and closes no handle, and writes nothing behind a
+ * pointer, but for the fault of a text, at HIDR_FAULT, and the number of what hidr_write refuses. If several refusals hold, the
+ * first one of this list is returned: HIDR_NULL, HIDR_LENGTH, the handle's, HIDR_OVERLAP, then those that are named at the
+ * call, in that order. A call with a pointer may return HIDR_NULL, one with a count or a length HIDR_LENGTH, one with a handle
+ * HIDR_NO_HANDLE, HIDR_CLOSED and HIDR_WRONG_KIND.
  *
  * A text is the bytes of a report descriptor. Texts and reports may be any bytes. A pointer that is not null must lead to as
  * many values as its count says. They need no alignment and may overlap (but for what HIDR_OVERLAP refuses), and no pointer
@@ -16,9 +16,9 @@
  * may be more.
  *
  * Memory: calls write results to the caller's memory; a name that is returned as a pointer stays valid. Nothing is to be
- * freed; a handle is closed by hidr_close. Where HIDR_NO_MEMORY is named, the call allocates by malloc: the memory of
- * hidr_parse, of a parser and of hidr_reader_open is kept until the handle is closed, all other is freed before the call
- * ends. Other calls allocate nothing.
+ * freed; a handle is closed by hidr_close. A call that names HIDR_NO_MEMORY allocates by malloc, others allocate nothing. The
+ * memory of hidr_parse, of a parser and of hidr_reader_open is kept until the handle is closed. All other is freed before the
+ * call ends.
  *
  * Any thread may call at any time. Calls on one handle take turns; those on different handles don't wait for each other, but
  * for the moment in which a slot is taken or given back. A handle may be closed while another thread uses it: that call has
@@ -41,7 +41,7 @@ typedef uint64_t hidr_reader; /* it may stand wherever a descriptor is wanted */
 /* As many may be open at once, parsers, descriptors and readers together. */
 #define HIDR_HANDLES 256
 
-/* What a call came to. */
+/* The status of a call. */
 typedef int32_t hidr_status;
 enum {
     HIDR_OK = 0,
@@ -83,10 +83,10 @@ typedef struct hidr_error {
     uint32_t fault;
 } hidr_error;
 
-/* The kinds of reports. */
+/* The kinds of reports (HID 1.11, 6.2.2.5). */
 enum { HIDR_INPUT = 0, HIDR_OUTPUT = 1, HIDR_FEATURE = 2 };
 
-/* A field of a report: `count` places of `size` bits each. */
+/* A field of a report: `count` places of `size` bits each (HID 1.11, 6.2.2.5 and 6.2.2.7). */
 typedef struct hidr_field {
     uint64_t bit;     /* the first bit, from the least significant one of the byte after the ID byte on */
     int64_t min, max; /* the logical extents */
@@ -135,19 +135,20 @@ hidr_status hidr_field_at(hidr_descriptor descriptor, size_t field, hidr_field *
 /* Gets the usages of a field, as the ranges that were declared. HIDR_ABSENT if there is no such field. */
 hidr_status hidr_ranges(hidr_descriptor descriptor, size_t field, hidr_range *into, size_t room, size_t *count);
 
-/* Gets the usage of a place of a variable field, where the last usage serves the places that are left, or usage number
- * `place` of an array's list, both from 0 on. HIDR_ABSENT if there is no such field, or no usage at this place. */
+/* Gets the usage of a place of a variable field, or usage number `place` of an array's list, both from 0 on. The last usage of
+ * a variable field serves the places that are left (HID 1.11, 6.2.2.8). HIDR_ABSENT if there is no such field, or no usage at
+ * this place. */
 hidr_status hidr_usage_at(hidr_descriptor descriptor, size_t field, size_t place, uint32_t *usage);
 
-/* Tells whether reports begin with an ID byte: sets *uses to 1, else to 0. */
+/* Gets whether reports begin with an ID byte (HID 1.11, 6.2.2.7): sets *uses to 1, else to 0. */
 hidr_status hidr_uses_ids(hidr_descriptor descriptor, uint8_t *uses);
 
 /* Gets the length in bytes of the report of this kind and ID (0 where none is used), with its ID byte. HIDR_ABSENT if there
  * is none, or `kind` is no kind. */
 hidr_status hidr_report_length(hidr_descriptor descriptor, uint8_t kind, uint8_t id, size_t *bytes);
 
-/* Reads the usages of an input report with their values, in the order of its fields and places. Bytes behind the report are
- * ignored. HIDR_EMPTY_REPORT, HIDR_UNKNOWN_ID, HIDR_SHORT_REPORT, HIDR_NO_MEMORY. */
+/* Reads the usages of an input report with their values, in the order of its fields and places (HID 1.11, 8.4). Bytes behind
+ * the report are ignored. HIDR_EMPTY_REPORT, HIDR_UNKNOWN_ID, HIDR_SHORT_REPORT, HIDR_NO_MEMORY. */
 hidr_status hidr_extract(hidr_descriptor descriptor, const uint8_t *report, size_t length, hidr_found *into, size_t room,
                          size_t *count);
 
@@ -173,12 +174,12 @@ hidr_status hidr_reader_open_lenient(const uint8_t *text, size_t length, hidr_re
 #define HIDR_NONE UINT32_MAX
 
 /* Items and fields are counted in two lists, each from 0 on in the order of the text. An item is an Input, Output or Feature
- * item that takes a bit, padding among them: its number is `item`. A field is an item that is not Constant: its number is
+ * item that takes a bit, padding among them: its number is `item`. A field is an item that is not Constant. Its number is
  * `field`, and `control` by HIDR_BY_FIELD. hidr_detail_of gives the item of a field, and hidr_detail.field the field of an
  * item. */
 
-/* The bits of an Input, Output or Feature item (HID 1.11, 6.2.2.5); where one is not set it is Data, Array, Absolute, No Wrap,
- * Linear, Preferred State, no Null State, Non Volatile, Bit Field. */
+/* The bits of an Input, Output or Feature item (HID 1.11, 6.2.2.5). One that is not set says in this order: Data, Array,
+ * Absolute, No Wrap, Linear, Preferred State, no Null State, Non Volatile, Bit Field. */
 enum {
     HIDR_CONSTANT = 1,
     HIDR_VARIABLE = 2,
@@ -191,7 +192,7 @@ enum {
     HIDR_BUFFERED = 256
 };
 
-/* What an Input, Output or Feature item declares. */
+/* What an Input, Output or Feature item declares (HID 1.11, 6.2.2.4 to 6.2.2.7). */
 typedef struct hidr_detail {
     uint64_t offset;                    /* of the item in the text, in bytes */
     uint64_t bit;                       /* as that of hidr_field */
@@ -255,22 +256,21 @@ hidr_status hidr_applications_of(hidr_reader reader, uint8_t kind, uint8_t id, u
 /* Gets the numbers of the items of a report, in order, padding among them. HIDR_ABSENT if there is no such report. */
 hidr_status hidr_report_details(hidr_reader reader, uint8_t kind, uint8_t id, uint32_t *into, size_t room, size_t *count);
 
-/* What names a control for a person (HID 1.11, 6.2.2.8). */
-enum { HIDR_STRING = 0, HIDR_DESIGNATOR = 1 };
+/* Get the string indices and the designator indices of an item and of a collection, as ranges (HID 1.11, 6.2.2.8). A Minimum or
+ * Maximum without its other half gives none; one over the other gives a range whose first number is over its last. HIDR_ABSENT
+ * if there is no such item or collection. */
+hidr_status hidr_strings(hidr_reader reader, size_t item, hidr_range *into, size_t room, size_t *count);
+hidr_status hidr_designators(hidr_reader reader, size_t item, hidr_range *into, size_t room, size_t *count);
+hidr_status hidr_collection_strings(hidr_reader reader, size_t collection, hidr_range *into, size_t room, size_t *count);
+hidr_status hidr_collection_designators(hidr_reader reader, size_t collection, hidr_range *into, size_t room, size_t *count);
 
-/* Gets the strings or designators that the text gives the item at an offset, as ranges of numbers. A Minimum or Maximum
- * without its other half gives none; one over the other gives a range whose first number is over its last. HIDR_ABSENT where
- * `naming` is neither; HIDR_OVERLAP of text and ranges. */
-hidr_status hidr_namings(const uint8_t *text, size_t length, uint64_t offset, uint8_t naming, hidr_range *into, size_t room,
-                         size_t *count);
-
-/* Gets the exponents in an item's unit, -8 to 7, of length, mass, time, temperature, current and luminous intensity: six
- * numbers, all 0 where there is no unit. HIDR_ABSENT; HIDR_RESERVED_DIGIT, HIDR_NO_SYSTEM, HIDR_RESERVED_SYSTEM,
+/* Gets the exponents in an item's unit (HID 1.11, 6.2.2.7): of length, mass, time, temperature, current and luminous intensity,
+ * -8 to 7, all 0 where there is no unit. HIDR_ABSENT; HIDR_RESERVED_DIGIT, HIDR_NO_SYSTEM, HIDR_RESERVED_SYSTEM,
  * HIDR_VENDOR_SYSTEM: the first of them that holds. */
 hidr_status hidr_unit_exponents(hidr_reader reader, size_t item, int8_t *into);
 
-/* Write a name as text that ends with a NUL: as much as fits into `room` characters, the NUL among them, and in *length how
- * long the whole is without it. If room is 0 no text is written. That of an item's unit, as "degree", of a collection's type,
+/* Write a name as text that ends with a NUL: as much as fits into `room` characters, the NUL among them. *length is how long
+ * the whole is without the NUL. If room is 0 no text is written. That of an item's unit, as "degree", of a collection's type,
  * as "Logical", and of a page, as "LED", is empty where there is none. That of a usage, as "Num Lock", is its page and number
  * where none is known. HIDR_ABSENT if there is no such item or collection. */
 hidr_status hidr_unit_name(hidr_reader reader, size_t item, char *into, size_t room, size_t *length);
@@ -278,8 +278,8 @@ hidr_status hidr_collection_name(hidr_reader reader, size_t collection, char *in
 hidr_status hidr_usage_name(uint32_t usage, char *into, size_t room, size_t *length);
 hidr_status hidr_page_name(uint16_t page, char *into, size_t room, size_t *length);
 
-/* Where a value is, by the logical extents of its field: within them; outside, in a variable field with Null State, so that
- * the control has no value; outside, in any other. */
+/* Where a value is, by the logical extents of its field (HID 1.11, 5.10 and 6.2.2.5). Outside of them the control of a variable
+ * field with Null State has no value: HIDR_IS_NULL. In any other field such a value is HIDR_IS_OUT. */
 enum { HIDR_IN_RANGE = 0, HIDR_IS_NULL = 1, HIDR_IS_OUT = 2 };
 
 /* The value of a place of a field. */
@@ -293,9 +293,9 @@ typedef struct hidr_value {
     uint32_t item;     /* that of the field, as hidr_detail_at counts */
 } hidr_value;
 
-/* Reads the values of a report of a kind, in the order of its fields and places. If `rest` is not null, *rest is how many
- * bytes stand behind the report's end. HIDR_OVERLAP of report and values; HIDR_EMPTY_REPORT, HIDR_UNKNOWN_REPORT,
- * HIDR_SHORT_REPORT. */
+/* Reads the values of a report of a kind, in the order of its fields and places (HID 1.11, 5.6 and 8.4). If `rest` is not null,
+ * *rest is how many bytes stand behind the report's end. HIDR_OVERLAP of report and values; HIDR_EMPTY_REPORT,
+ * HIDR_UNKNOWN_REPORT, HIDR_SHORT_REPORT. */
 hidr_status hidr_read(hidr_reader reader, uint8_t kind, const uint8_t *report, size_t length, hidr_value *into, size_t room,
                       size_t *count, size_t *rest);
 
@@ -305,9 +305,9 @@ hidr_status hidr_read(hidr_reader reader, uint8_t kind, const uint8_t *report, s
 hidr_status hidr_buffered(hidr_reader reader, uint8_t kind, const uint8_t *report, size_t length, size_t field, uint8_t *into,
                           size_t room, size_t *count);
 
-/* Compares two reports of a kind and ID: gets the usages that are on in `now` alone, and those that are on in `before` alone,
- * each list in ascending order, each usage once. On is what an array names, and a variable field's usage whose value is not
- * 0. Each list has its own room and count. It refuses what hidr_read refuses of `before`, then of `now`; HIDR_OTHER_ID;
+/* Compares two reports of a kind and ID: gets the usages that are on in `now` alone, and those that are on in `before` alone.
+ * Each list is in ascending order, has each usage once, and has its own room and count. On is what an array names, and a
+ * variable field's usage whose value is not 0. It refuses what hidr_read refuses of `before`, then of `now`; HIDR_OTHER_ID;
  * HIDR_NO_MEMORY. */
 hidr_status hidr_changes(hidr_reader reader, uint8_t kind, const uint8_t *before, size_t before_length, const uint8_t *now,
                          size_t now_length, uint32_t *pressed, size_t pressed_room, size_t *pressed_count, uint32_t *released,
@@ -318,9 +318,9 @@ typedef struct hidr_fraction {
     int64_t numerator, denominator, exponent;
 } hidr_fraction;
 
-/* Converts a value of a field into its unit, exactly: on the line through the logical and the physical extents, also past
- * their ends. HIDR_ABSENT; HIDR_EQUAL_LIMITS, HIDR_INVERTED_LIMITS; HIDR_TOO_LARGE where it does not fit into 64 bits, as far
- * outside of extents that are very wide. */
+/* Converts a value of a field into its unit, exactly (HID 1.11, 6.2.2.7): on the line through the logical and the physical
+ * extents, also past their ends. HIDR_ABSENT; HIDR_EQUAL_LIMITS, HIDR_INVERTED_LIMITS; HIDR_TOO_LARGE if it does not fit into
+ * 64 bits, as far outside of extents that are very wide. */
 hidr_status hidr_physical(hidr_reader reader, size_t field, int64_t raw, hidr_fraction *into);
 
 /* Finds the value within the logical extents that hidr_physical converts to exactly numerator / denominator, its power of ten
@@ -329,8 +329,8 @@ hidr_status hidr_physical(hidr_reader reader, size_t field, int64_t raw, hidr_fr
 hidr_status hidr_value_of(hidr_reader reader, size_t field, int64_t numerator, uint64_t denominator, int64_t *raw);
 
 /* Writes what hidr_physical gives as a decimal, as a text like a name's: at most 63 characters. It is cut off after `digits`
- * decimals, at most 18. `e` and the power of ten follow where that is beyond 18 either way, or the whole would
- * have more than 38 digits. HIDR_ABSENT; HIDR_EQUAL_LIMITS, HIDR_INVERTED_LIMITS. */
+ * decimals, at most 18. `e` and the power of ten follow where that is beyond 18 either way, or the whole would have more than
+ * 38 digits. HIDR_ABSENT; HIDR_EQUAL_LIMITS, HIDR_INVERTED_LIMITS. */
 hidr_status hidr_decimal(hidr_reader reader, size_t field, int64_t raw, uint32_t digits, char *into, size_t room, size_t *length);
 
 /* How a setting names its control: by its usage, the page in the high half, or as a place of a field, as hidr_field_at
@@ -348,15 +348,20 @@ typedef struct hidr_setting {
     uint8_t null; /* 1: no value, where the field has Null State */
 } hidr_setting;
 
-/* Writes a report of a kind and ID, 0 where none is used, with `count` controls set: its first `room` bytes, and in *length
- * how many there are, the ID byte among them. Each other bit is that of the report `onto`, of `onto_length` bytes; where that
- * is 0 the report is new: places with Null State are null where there is a value for it, places of arrays name no usage, and
- * the rest is 0. The report may be written over `onto`. The first of these, and of several settings that of the first one:
- * HIDR_NO_MEMORY for the settings, HIDR_UNKNOWN_REPORT, HIDR_OTHER_ID, HIDR_SHORT_REPORT, HIDR_NO_MEMORY for the report,
- * HIDR_NO_UNUSED with the field in *which; and with the number of the setting in *which HIDR_UNKNOWN_CONTROL, HIDR_TWICE,
- * HIDR_NO_NULL, HIDR_TOO_LARGE, HIDR_OUT_OF_RANGE; of a usage of an array HIDR_UNKNOWN_CONTROL, HIDR_NO_NULL,
- * HIDR_OUT_OF_RANGE where it is set to neither 0 nor 1, HIDR_TOO_LARGE, HIDR_OUT_OF_RANGE, HIDR_NO_ROOM where each place
- * names another usage or is set, or none can name none, HIDR_TWICE. */
+/* Writes a report of a kind and ID, 0 where none is used, with `count` controls set: its first `room` bytes. *length is how
+ * many it has, the ID byte among them. Each other bit is that of the report `onto`, of `onto_length` bytes, over which the
+ * report may be written. If `onto_length` is 0, the report is new. Places with Null State are null then if there is a value for
+ * it, places of arrays name no usage, and the rest is 0.
+ *
+ * It refuses in this order:
+ * - HIDR_NO_MEMORY for the settings, HIDR_UNKNOWN_REPORT, HIDR_OTHER_ID, HIDR_SHORT_REPORT, HIDR_NO_MEMORY for the report
+ * - HIDR_NO_UNUSED, with the field in *which
+ * - the first setting that is refused, with its number in *which
+ *
+ * A setting is refused by the first of these:
+ * - a usage of an array: HIDR_UNKNOWN_CONTROL, HIDR_NO_NULL, HIDR_OUT_OF_RANGE if it is set to neither 0 nor 1, HIDR_TOO_LARGE,
+ *   HIDR_OUT_OF_RANGE, HIDR_NO_ROOM if each place names another usage or is set, or none can name none, HIDR_TWICE
+ * - all else: HIDR_UNKNOWN_CONTROL, HIDR_TWICE, HIDR_NO_NULL, HIDR_TOO_LARGE, HIDR_OUT_OF_RANGE */
 hidr_status hidr_write(hidr_reader reader, uint8_t kind, uint8_t id, const hidr_setting *settings, size_t count,
                        const uint8_t *onto, size_t onto_length, uint8_t *into, size_t room, size_t *length, size_t *which);
 

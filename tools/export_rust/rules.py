@@ -105,7 +105,9 @@ READER = Rules(
     derives={("descriptor_parse", "Descriptor"): ("Clone", "PartialEq", "Eq"),
              **{("descriptor_parse", name): ("PartialEq", "Eq")
                 for name in ("Reports", "Totals", "Link", "IdReports", "ReportBits", "FirstFields")}},
-    inlined=frozenset({("descriptor_parse", name) for name in ("Items::next", "Item::tag", "read_usage", "Usage::on")}),
+    inlined=frozenset({("descriptor_parse", name) for name in
+                       ("Items::next", "Item::tag", "read_usage", "Usage::on", "end_error", "State::new", "State::into_reports",
+                        "Reports::new", "Reports::link", "Descriptor::new")}),
     docs={("host_extract", ""): [("by the descriptor that [`descriptor_parse`] gives", "by the descriptor that `descriptor_parse` gives"),
                                  ("The crate `host` calls it", "The crate `kbsim` calls it")],
           ("lenient_parse", ""): [("`descriptor_parse::parse`", "`wuzhikar_reader::parse`")]},
@@ -120,7 +122,8 @@ DETAILS = Rules(
                       ("PlacedFields::next", "PlacedFields::take", "Applications::next", "Applications::take", "first_from", "passes",
                        "belongs", "is_of_report", "same_kind", "application_of", "inside", "outer", "less", "is_application",
                        "PlacedFields::new", "Detail::is_constant", "Collection::is_application")),
-    derives={("field_details", "Details"): ("Clone", "Default", "PartialEq", "Eq"), ("report_read", "Plan"): ("Clone",),
+    derives={**{("field_details", name): ("Clone", "Default", "PartialEq", "Eq") for name in ("Details", "Names", "Named")},
+             ("field_details", "Part"): ("PartialEq", "Eq"), ("report_read", "Plan"): ("Clone",),
              ("report_read", "Plans"): ("Clone",), ("report_read", "ReportReader"): ("Clone", "Debug"), ("report_read", "Reading"): ("Clone",),
              ("report_read", "Changed"): ("Clone", "Default", "PartialEq", "Eq")},
     docs={("field_details", "text"): [("`descriptor_parse::parse`", "`wuzhikar_reader::parse`")],
@@ -179,7 +182,7 @@ LIBRARIES = {"arrayvec"}
 DERIVING_LIBRARIES = {"thiserror"}
 
 # Crates that a module of `rattle` stands for.
-STAND_INS = {"circular_buffer", "hex"}
+STAND_INS = {"circular_buffer", "hex", "smallvec"}
 
 # Their types that have the constant of `unstarted`, written by hand.
 STAND_INS_UNSTARTED = {"HeapCircularBuffer"}

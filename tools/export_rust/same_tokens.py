@@ -234,6 +234,7 @@ class Exported:
                                  ("crate :: rattle :: vec :: of", "vec :: of"), ("crate :: rattle :: vec ::", "Vec ::"),
                                  ("crate :: rattle :: Vec", "Vec"),
                                  ("crate :: rattle :: circular_buffer", "circular_buffer"), ("crate :: rattle :: hex", "hex"),
+                                 ("crate :: rattle :: smallvec", "smallvec"),
                                  ("crate :: rattle :: alloc", "std :: alloc"), ("crate :: rattle :: simd", "std :: simd"), ("core ::", "std ::")])
         words = [CALLS.get(word, word) if before in (".", "fn") else word for before, word in itertools.pairwise(["", *words])]
         self.words = derived(words)

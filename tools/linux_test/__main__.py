@@ -2,7 +2,7 @@
 
 One Linux boots with a keyboard for each packet size of endpoint 1, by USB/IP, and one behind the machine's own controller, by USB
 redirection. The lists of examples/real_host/linux are followed on each. Then it gets devices of real report descriptors, by uhid,
-and what it makes of their reports is compared with what `kbsim read` says of them (values.py). SeaBIOS is started once for each size and controller, the
+and what it makes of them and of their reports is compared with what `kbsim` says (values.py). SeaBIOS is started once for each size and controller, the
 shell of UEFI once with a keyboard of each size.
 
 It needs rustc, cargo, the crate arrayvec, gcc with a static libc, qemu-system-x86_64, busybox-static and kmod; OVMF for UEFI, and
@@ -73,7 +73,9 @@ class Test:
         reader = parts.reader()
         if not reader:
             print(f"linux-test: skipped: the values of reports, as Linux has them (Debian: {parts.READER[1]})")
-        self.values = Values(reader, self.work) if reader else None
+        if reader:
+            self.values = Values(reader, self.work)
+            self.programs |= {"kbsim": reader, **parts.linked(reader)}
         try:
             kernel, disk, release = self.boot()
         except parts.Missing as error:

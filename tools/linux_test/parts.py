@@ -3,6 +3,7 @@
 import fcntl
 import glob
 import os
+import re
 import shutil
 import subprocess
 import sys
@@ -111,3 +112,9 @@ def reader():
         return ""
     words = [f"{ROOT}/bin/kbsim", "--way", "plain", "--path", "read"]
     return subprocess.run(words, check=True, stdout=subprocess.PIPE, text=True).stdout.strip()
+
+
+def linked(program):
+    """The libraries that a program is linked with, by their paths in the guest."""
+    told = subprocess.run(["ldd", program], stdout=subprocess.PIPE, stderr=subprocess.DEVNULL, text=True).stdout
+    return {path.lstrip("/"): path for path in re.findall(r"(/\S+) \(0x", told)}

@@ -13,6 +13,7 @@ sys.path.insert(0, os.path.dirname(os.path.abspath(__file__)))
 
 import guest  # noqa: E402
 import lists  # noqa: E402
+import parsed  # noqa: E402
 import parts  # noqa: E402
 import values  # noqa: E402
 from machines import SECTOR  # noqa: E402
@@ -110,6 +111,48 @@ class Values(unittest.TestCase):
     def test_there_are_real_descriptors(self):
         self.assertGreaterEqual(len(values.texts()), 10)
         self.assertGreaterEqual(len(values.texts()) * values.REPORTS, 1000)
+
+
+class Parsed(unittest.TestCase):
+    """What Linux parsed of a descriptor."""
+
+    LINES = ["  INPUT(1)[INPUT]", "    Field(0)", "      Physical(GenericDesktop.Pointer)", "      Application(GenericDesktop.Mouse)", "      Usage(2)",
+             "        GenericDesktop.X", "        Button.0001", "      Logical Minimum(-1)", "      Logical Maximum(1)", "      Physical Minimum(0)",
+             "      Physical Maximum(90)", "      Unit Exponent(-2)", "      Unit(English Rotation : Degrees*Seconds^-1)", "      Report Size(4)",
+             "      Report Count(2)", "      Report Offset(8)", "      Flags( Variable Absolute NullState )"]
+
+    def told(self, **other):
+        """The same as the reader tells it, or otherwise."""
+        item = {"kind": "input", "id": 1, "field": 0, "bit": 8, "size": 4, "count": 2, "flags": 0x42, "logical": [-1, 1], "physical": [0, 90],
+                "unit": {"data": 0xF014, "exponent": -2}, "usages": [{"first": 0x10030, "last": 0x10030}, {"first": 0x90001, "last": 0x90001}],
+                "collections": [0, 1], **other}
+        return {"fields": [item], "collections": [{"type": 1, "usage": 0x10002}, {"type": 0, "usage": 0x10001}]}
+
+    def differences(self, told, lines=None):
+        """In what they differ."""
+        self.rules = parsed.Counter()
+        return parsed.Parsed(self.rules).differences("mouse", told, lines or self.LINES)
+
+    def test_the_same_is_no_difference(self):
+        self.assertEqual(self.differences(self.told()), [])
+
+    def test_each_word_is_compared(self):
+        usages = [{"first": 0x10030, "last": 0x10030}, {"first": 0x90002, "last": 0x90002}]
+        for other in ({"id": 2}, {"bit": 9}, {"size": 5}, {"count": 3}, {"flags": 2}, {"logical": [0, 1]}, {"physical": [0, 91]}, {"collections": [0]},
+                      {"unit": {"data": 0x14, "exponent": -2}}, {"unit": {"data": 0xF014, "exponent": 0}}, {"usages": usages}, {"usages": usages[:1]}):
+            self.assertNotEqual(self.differences(self.told(**other)), [], other)
+
+    def test_a_name_stands_for_one_usage(self):
+        lines = [line.replace("Button.0001", "GenericDesktop.X") for line in self.LINES]
+        self.assertEqual(len(self.differences(self.told(), lines)), 1)
+
+    def test_rules_of_linux(self):
+        lines = [line for line in self.LINES if "Physical M" not in line]
+        self.assertEqual(self.differences(self.told(physical=[-1, 1]), lines), [])
+        self.assertEqual(self.rules["physical extents that are not declared stay 0"], 1)
+        lines = [line.replace("Variable", "Constant Variable") for line in self.LINES]
+        self.assertEqual(self.differences(self.told(field=None, usages=[], flags=0x43), lines), [])
+        self.assertEqual(self.rules["padding with a usage is a constant field"], 1)
 
 
 class Lists(unittest.TestCase):

@@ -1,8 +1,11 @@
-"""What Linux makes of the values in reports, beside what `kbsim read` says of them.
+"""What Linux makes of report descriptors and reports, beside what `kbsim` says of them.
 
 examples/real_host/linux/uhid.c makes devices of real report descriptors in the guest, sends reports drawn here, and tells the keys
 that are down, the absolute axes and the moves. `Linux` says from the reader's values what that has to be, by the rules of Linux
 (drivers/hid/hid-core.c, hid-input.c). Each rule that makes Linux say something else than the reader is counted by its name.
+
+In the guest `kbsim read --live` reads the same reports from a file of hidraw. What Linux parsed of each descriptor is compared by
+`parsed`, and the output and feature reports that Linux sends with those of `kbsim write`.
 """
 
 import collections
@@ -11,10 +14,13 @@ import json
 import os
 import random
 import subprocess
+from itertools import zip_longest
 
+from parsed import Parsed
 from parts import ROOT
 
 REPORTS = 100  # of each device
+LIGHTS = 8  # how many times an LED of each device changes
 # Absolute axes by usage: X to Wheel of the page Generic Desktop, Rudder, Throttle, Accelerator and Brake of Simulation; and
 # relative ones: X to Rz, and Wheel and AC Pan in 120ths of a notch.
 ABSOLUTE = {0x00010030 + number: number for number in range(9)} | {0x000200BA: 7, 0x000200BB: 6, 0x000200C4: 9, 0x000200C5: 10}
@@ -22,6 +28,9 @@ RELATIVE = {0x00010030 + number: number for number in range(6)} | {0x00010038: 1
 HAT, HAT_CODES = 0x00010039, (16, 17)
 HAT_AXES = [(0, 0), (0, -1), (1, -1), (1, 0), (1, 1), (0, 1), (-1, 1), (-1, 0), (-1, -1)]
 ROLLOVER, MULTIPLIER, NOTCH = 0x00070001, 0x00010048, 120
+LEDS = range(0x00080001, 0x00080006)  # Num Lock to Kana, which Linux counts from 0
+# What `kbsim read --live` ends with when the device is gone.
+GONE = ["fault input", "the reports can't be read: Input/output error (os error 5)"]
 COMPARED = set(ABSOLUTE.values()) | set(HAT_CODES)
 
 
@@ -51,17 +60,35 @@ class Reader:
         """What it prints."""
         return subprocess.run([self.program, *words], input=given, stdout=subprocess.PIPE, check=True, text=True).stdout
 
-    def values(self, reports, work):
-        """The values of each of these reports."""
+    def read(self, reports, work, *words):
+        """The lines of these reports."""
         with open(f"{work}/descriptor", "w", encoding="utf-8") as file:
             file.write(self.text)
-        said = self.ask("read", "--json", "--from", "hex", f"{work}/descriptor", given="".join(f"{report}\n" for report in reports))
-        return [json.loads(line)["values"] for line in said.splitlines()]
+        given = "".join(f"{report}\n" for report in reports)
+        return self.ask("read", *words, "--from", "hex", f"{work}/descriptor", given=given).splitlines()
 
-    def draw(self, drawn):
-        """An input report in hex: mostly values within the extents or at their ends, or any bits."""
-        report = drawn.choice([report for report in self.told["reports"] if report["kind"] == "input"])
-        bits = drawn.getrandbits(report["bits"])
+    def values(self, reports, work):
+        """The values of each of these reports."""
+        return [json.loads(line)["values"] for line in self.read(reports, work, "--json")]
+
+    def write(self, kind, number, settings, onto=None):
+        """A report with these controls set."""
+        words = ["--kind", kind, "--from", "hex", *(["--onto", onto] if onto else []), "-", str(number), *settings]
+        return self.ask("write", *words, given=self.text).strip()
+
+    def reports(self, kind):
+        """The reports of a kind."""
+        return [report for report in self.told["reports"] if report["kind"] == kind]
+
+    def having(self, report, usage):
+        """The items of a report that have a usage."""
+        return [item for item in map(self.told["fields"].__getitem__, report["fields"]) if item["field"] is not None and Linux.has(item, usage)]
+
+    def draw(self, drawn, report=None):
+        """A report in hex, an input report where none is named: mostly values within the extents or at their ends, or any bits. The
+        padding of others is 0."""
+        report = report or drawn.choice(self.reports("input"))
+        bits = drawn.getrandbits(report["bits"]) if report["kind"] == "input" else 0
         for place in report["fields"]:
             item = self.told["fields"][place]
             least, greatest = item["logical"]
@@ -187,7 +214,7 @@ class Linux:
 
     def said(self, line):
         """What Linux told of a report, as this tells it: keys, axes and moves by application."""
-        keys, _, rest = line[2:].partition("A")
+        keys, _, rest = line.partition("A")
         axes, _, moves = rest.partition("R")
         told = [collections.defaultdict(dict), collections.defaultdict(dict)]
         for into, words in zip(told, (axes.split(), moves.split())):
@@ -212,43 +239,86 @@ def compared(told, codes):
     return sorted(group for group in groups if group)
 
 
+class Device:
+    """A device with what is drawn for it: what the guest is given, and what it has to say but for keys, axes and moves."""
+
+    def __init__(self, reader, work, drawn):
+        self.reader = reader
+        self.sent = [reader.draw(drawn) for _ in range(REPORTS)]
+        self.values, self.live = reader.values(self.sent, work), reader.read(self.sent, work)
+        self.features = {report["id"]: reader.draw(drawn, report) for report in reader.reports("feature")}
+        self.changes, lit, self.outputs = [], set(), []
+        for report in reader.reports("output"):
+            leds = [led for led in LEDS if reader.having(report, led)]
+            for led in drawn.choices(leds, k=LIGHTS) if leds else []:
+                lit ^= {led}
+                self.changes.append(f"L {led - LEDS[0]} {int(led in lit)}\n")
+                self.outputs.append(reader.write("output", report["id"], [f"{usage:08x}=1" for usage in sorted(lit)]))
+
+    def lines(self, name):
+        """Those for the guest."""
+        features = [f"F {number} {feature}\n" for number, feature in self.features.items()]
+        return "".join([*features, f"D {name} {self.reader.text}\n", *(f"R {report}\n" for report in self.sent), *self.changes])
+
+    def multiplied(self):
+        """The feature reports in which Linux turns on the Resolution Multipliers."""
+        for report in self.reader.reports("feature"):
+            items = self.reader.having(report, MULTIPLIER)
+            settings = [f"f{item['field']}[{place}]={item['logical'][1]}" for item in items for place in range(item["count"])]
+            if settings:
+                yield self.reader.write("feature", report["id"], settings, self.features[report["id"]])
+
+    def said(self):
+        """What hidraw gives of feature reports, the output and the feature reports that Linux sends, and what kbsim says."""
+        features = [feature for _, feature in sorted(self.features.items())]
+        # (Hidraw takes a report without an ID behind a 0.)
+        back = features if self.reader.told["uses_ids"] else [f"00{feature}" for feature in features]
+        return {"G": features, "O": self.outputs, "S": [*self.multiplied(), *back], "V": [*self.live, *GONE]}
+
+
 class Values:
     """All devices with their reports: what the guest is given, and what it has to say."""
 
     def __init__(self, program, work, seed=1):
         drawn = random.Random(seed)
-        self.devices, self.rules = {}, collections.Counter()
-        for name, text in texts().items():
-            reader = Reader(program, text)
-            reports = [reader.draw(drawn) for _ in range(REPORTS)]
-            self.devices[name] = reader, reports, reader.values(reports, work)
+        self.rules = collections.Counter()
+        self.parsed = Parsed(self.rules)
+        self.devices = {name: Device(Reader(program, text), work, drawn) for name, text in texts().items()}
 
     def lines(self):
         """The file for the guest."""
-        parts = [f"D {name} {reader.text}\n" + "".join(f"R {report}\n" for report in reports)
-                 for name, (reader, reports, _) in self.devices.items()]
-        return "".join(parts).encode()
+        return "".join(device.lines(name) for name, device in self.devices.items()).encode()
 
     def differences(self, said):
         """What Linux says otherwise, of the lines that it said."""
-        lines, found, reports = iter(said), [], 0
-        for name, (reader, sent, values) in self.devices.items():
-            head, keys = next(lines, ""), next(lines, "")
-            if not head.startswith(f"device {name} ") or not keys.startswith("key"):
-                return [*found, f"{name}: Linux says {head!r} and {keys!r}"]
-            usages = collections.defaultdict(list)
-            for usage, code in (word.split("=") for word in keys.split()[1:]):
-                usages[int(usage, 16)].append(int(code))
-            device = Linux(reader.told, usages, self.rules)
-            for report, its, line in zip(sent, values, [next(lines, "") for _ in sent]):
-                reports += 1
-                device.take(its)
-                down, axes, moves = device.said(line)
-                wanted = (device.down, grouped(device.axes), grouped({key: value for key, value in device.moves.items() if value}))
-                told = (down, compared(axes, COMPARED), compared(moves, set(RELATIVE.values())))
-                if wanted != told:
-                    found.append(f"{name}, report {report}: Linux says {told}, the reader {wanted}")
-                    break
-        print(f"linux-test: {len(self.devices)} descriptors, {reports} reports beside what the reader says; rules of Linux: "
-              + "; ".join(f"{rule} ({count})" for rule, count in sorted(self.rules.items())), flush=True)
+        found, told = [], {}
+        for line in said:
+            word, _, rest = line.partition(" ")
+            lines = told.setdefault(rest, collections.defaultdict(list)) if word == "device" else lines
+            lines[word].append(rest)
+        for name, device in self.devices.items():
+            lines = told.get(name, collections.defaultdict(list))
+            found += self.parsed.differences(name, device.reader.told, lines["P"])
+            found += self.of_values(name, device, lines)
+            for kind, wanted in device.said().items():
+                found += [f"{name}: Linux says {kind} {here!r}, and not {own!r}" for here, own in zip_longest(lines[kind], wanted) if here != own][:3]
+        counts = {words: sum(len(getattr(device, of)) for device in self.devices.values())
+                  for words, of in (("input reports", "sent"), ("output reports", "outputs"), ("feature reports", "features"))}
+        print(f"linux-test: {len(self.devices)} descriptors, {self.parsed.fields} fields, " + ", ".join(f"{count} {words}" for words, count in counts.items())
+              + " beside what kbsim says; rules of Linux: " + "; ".join(f"{rule} ({count})" for rule, count in sorted(self.rules.items()) if count), flush=True)
         return found
+
+    def of_values(self, name, device, lines):
+        """What Linux says otherwise of keys, axes and moves."""
+        usages = collections.defaultdict(list)
+        for usage, code in (word.split("=") for word in " ".join(lines["key"]).split()):
+            usages[int(usage, 16)].append(int(code))
+        linux = Linux(device.reader.told, usages, self.rules)
+        for report, its, line in zip_longest(device.sent, device.values, lines["K"], fillvalue=""):
+            linux.take(its)
+            down, axes, moves = linux.said(line)
+            wanted = (linux.down, grouped(linux.axes), grouped({key: value for key, value in linux.moves.items() if value}))
+            told = (down, compared(axes, COMPARED), compared(moves, set(RELATIVE.values())))
+            if wanted != told:
+                return [f"{name}, report {report}: Linux says {told}, the reader {wanted}"]
+        return []

@@ -34,21 +34,22 @@ def text_cases(text, offsets, whole):
 
 def parser_cases():
     """A growth that is refused is told as Memory (17) at the item that wanted it."""
-    # Push; Report ID 5; a Usage; an Input, which wants places for fields, for the ends of their usages, for their usages, for the
-    # counts of these and for the lengths of reports; a Constant Output and a Constant Feature, for which there is room.
+    # Push; Report ID 5; a Usage, for which there is room; an Input, which wants places for fields, for the ends of their usages,
+    # for their usages, for the counts of these and for the lengths of reports; a Constant Output and a Constant Feature, for which
+    # there is room.
     yield from text_cases(
         "A4 85 05 05 07 09 04 75 01 95 08 81 02 91 03 B1 03 B4",
-        [0, 5, 11, 11, 11, 11, 11],
+        [0, 11, 11, 11, 11, 11],
         "[Field { kind: Input, id: 5, bit: 0, size: 1, count: 8, min: 0, max: 0, array: false }] [(458756, 458756)]",
     )
-    # A Usage Maximum, whose Minimum wants the range, and a Feature without a Report ID.
+    # A Usage Maximum, its Minimum, and a Feature without a Report ID.
     yield from text_cases(
         "05 07 29 05 19 01 75 01 95 05 B1 02",
-        [4, 10, 10, 10, 10, 10],
+        [10, 10, 10, 10, 10],
         "[Field { kind: Feature, id: 0, bit: 0, size: 1, count: 5, min: 0, max: 0, array: false }] [(458753, 458757)]",
     )
-    # Seventeen usages, of which the first and the last want room, and a Delimiter: a growth refused before it is told first.
-    yield from text_cases("08" * 17 + "A8", [0, 16], "fault 2 at 17: Delimiter")
+    # Seventeen usages, of which the last wants room, and a Delimiter: a growth refused before it is told first.
+    yield from text_cases("08" * 17 + "A8", [16], "fault 2 at 17: Delimiter")
     # A Constant Input of ID 20: lengths of sixteen IDs, and then of more.
     yield from text_cases("85 14 75 01 95 01 81 03", [6, 6], "[] []")
 
@@ -73,31 +74,31 @@ def stopped(*growths):
 
 def host_cases():
     """A refused call tells it, and what comes after it is right: the same call again, and what the host kept before."""
-    yield from call_cases(0, 6, refused(1))
+    yield from call_cases(0, 5, refused(1))
     yield from call_cases(1, 0, refused(4))
-    yield from call_cases(2, 6, refused(6), later=2)
-    yield from call_cases(3, 6, refused(2))
-    yield from call_cases(4, 6, refused(8))
+    yield from call_cases(2, 5, refused(5), later=2)
+    yield from call_cases(3, 5, refused(2))
+    yield from call_cases(4, 5, refused(7))
 
 
 def device_cases():
     """What makes a device's parts; and of a script, or a descriptor's lines, whole lines are printed as far as it had come."""
     for call, beside, number in ((0, 0, 1), (1, 0, 1), (2, 0, 1), (3, 1, 1), (4, 0, 2)):
         yield from call_cases(call, beside, refused(number))
-    yield from call_cases(5, 0, stopped(12, 0, 0, 2))
-    yield from call_cases(6, 1, stopped(11, 0, 0, 2))
-    yield from call_cases(7, 0, stopped(9))
+    yield from call_cases(5, 0, stopped(11, 0, 0, 2))
+    yield from call_cases(6, 1, stopped(10, 0, 0, 2))
+    yield from call_cases(7, 0, stopped(8))
     # `describe` takes no memory.
     yield from call_cases(8, 0, [])
     yield from call_cases(9, 1, refused(1))
-    yield from call_cases(10, 6, refused(5))
+    yield from call_cases(10, 5, refused(5))
 
 
 def world_cases():
     """A world, whose keyboard, host and flash are all in one program."""
     yield from call_cases(0, 1, refused(1))
     yield from call_cases(1, 4, refused(4))
-    yield from call_cases(2, 4, refused(9))
+    yield from call_cases(2, 4, refused(8))
 
 
 # Each program: what is run, the crates that it stands on directly (none: it is a part of descriptor_parse), and its runs.

@@ -50,7 +50,7 @@ pub fn parse_beside<B: Beside>(
     let mut state = State::new(alloc);
     let mut at = 0;
     let mut rest = text;
-    while let Some((item, after)) = cut(at, rest) {
+    while let Some((item, after, _)) = cut(at, rest) {
         if beside.take(&item, &state).is_err() {
             return Err(Refusal::Memory);
         }

@@ -88,7 +88,7 @@ impl<'a> Iterator for Items<'a> {
             return None;
         }
         match cut(self.offset, self.rest) {
-            Some((item, rest)) => {
+            Some((item, rest, _)) => {
                 self.offset += self.rest.len() - rest.len();
                 self.rest = rest;
                 Some(Ok(item))
@@ -104,14 +104,16 @@ impl<'a> Iterator for Items<'a> {
     }
 }
 
-/// The item at the front of a text that stands at `offset`, and the text after it; `None` where the text ends before it.
+/// The item at the front of a text that stands at `offset`, the text after it, and how many bytes the item takes; `None` where
+/// the text ends before it.
 #[inline(always)]
-pub(crate) fn cut(offset: usize, text: &[u8]) -> Option<(Item<'_>, &[u8])>
+pub(crate) fn cut(offset: usize, text: &[u8]) -> Option<(Item<'_>, &[u8], usize)>
     ensures size { MatchOption result (length text.now < item_size text.now) (λ _. item_size text.now ≤ length text.now) }
     ensures few { IfNone result (length text.now ≤ 258) }
     ensures most { IfSome result (λ _. item_size text.now ≤ 258) }
     ensures item { IfSome result (λ r. item_view r.0 ≡ front_item offset text.now) }
     ensures rest { IfSome result (λ r. r.1.now ≡ drop (item_size text.now) text.now) }
+    ensures taken { IfSome result (λ r. r.2 ≡ item_size text.now) }
 {
     let Some((prefix, more)) = text.split_first() else {
         return None;
@@ -128,7 +130,7 @@ pub(crate) fn cut(offset: usize, text: &[u8]) -> Option<(Item<'_>, &[u8])>
             prefix: LONG,
             bytes: &whole[LONG_HEAD..],
         };
-        return Some((item, rest));
+        return Some((item, rest, size));
     }
     let size = data_len(*prefix);
     if more.len() < size {
@@ -140,7 +142,7 @@ pub(crate) fn cut(offset: usize, text: &[u8]) -> Option<(Item<'_>, &[u8])>
         prefix: *prefix,
         bytes,
     };
-    Some((item, rest))
+    Some((item, rest, 1 + size))
 }
 
 /// How many bytes the item at the front of a text takes.

@@ -13,9 +13,10 @@ ghost use Rattle.descriptor_parse.specs.declared.tag.LocalTag.{LocalTag};
 use crate::fault::ParseFault;
 use crate::tag::LocalTag;
 use crate::usage::Usage;
+use smallvec::SmallVec;
 use std::alloc::{AllocError, Global};
 
-/// How many ranges there is room for at first.
+/// How many ranges there is room for without memory.
 const FIRST_RANGES: usize = 16;
 
 /// A range of usages, its first and its last.
@@ -23,6 +24,16 @@ const FIRST_RANGES: usize = 16;
 pub(crate) struct UsageRange {
     pub(crate) first: Usage,
     pub(crate) last: Usage,
+}
+
+impl Default for UsageRange {
+    /// What stands where there is none.
+    fn default() -> UsageRange {
+        UsageRange {
+            first: Usage::Short(0),
+            last: Usage::Short(0),
+        }
+    }
 }
 
 /// A Usage Minimum or Maximum that has not met its pair.
@@ -35,7 +46,7 @@ pub(crate) struct Half {
 /// The usages since the latest Main item, and the Minimum or Maximum that has not met its pair.
 #[derive(Drop)]
 pub(crate) struct Locals {
-    pub(crate) usages: Vec<UsageRange>,
+    pub(crate) usages: SmallVec<UsageRange, FIRST_RANGES>,
     pub(crate) half: Option<Half>,
 }
 
@@ -44,7 +55,7 @@ impl Locals {
         ensures { LocalsRefine [] result }
     {
         Locals {
-            usages: Vec::new(alloc),
+            usages: SmallVec::new(alloc),
             half: None,
         }
     }
@@ -90,21 +101,8 @@ impl Locals {
         ensures added { OnOk result (self.new.usages.items ≡ self.old.usages.items ++ record { first = first; last = last } ∷ []) }
         ensures same { self.new.half ≡ self.old.half }
     {
-        if self.usages.capacity() == 0 {
-            self.make_room()?;
-        }
         self.usages.push(UsageRange { first, last })?;
         Ok(())
-    }
-
-    /// Takes memory for some ranges.
-    // Not inlined, so that the other items cost less.
-    #[inline(never)]
-    fn make_room(&mut self) -> Result<(), AllocError>
-        ensures usages { self.new.usages.items ≡ self.old.usages.items }
-        ensures half { self.new.half ≡ self.old.half }
-    {
-        self.usages.reserve(FIRST_RANGES)
     }
 
     /// Keeps a Minimum or Maximum, or makes it a range with its pair.
@@ -150,7 +148,7 @@ impl Locals {
         ensures counts { OnOk result (counts.new.items ≡ counts.old.items ++ wrapped_counts 0 (map (range_on page) self.now.usages.items)) }
     {
         let mut count = 0;
-        for range in &self.usages {
+        for range in self.usages.as_slice() {
             let (first, last) = (range.first.on(page), range.last.on(page));
             count = count_with(count, first, last);
             ranges.push((first, last))?;

@@ -1,10 +1,10 @@
 //! A text that comes in pieces, item by item.
 
-ghost use Rattle.std.specs.Prelude.{◌≡◌, ◌≢◌, ◌+◌, ◌-◌, ◌≤◌, ◌<◌, ℕ, List, [], ◌++◌, length, drop, MatchBool, OnOk, IfOk, IfErr};
+ghost use Rattle.std.specs.Prelude.{◌≡◌, ◌≢◌, ◌+◌, ◌-◌, ◌≤◌, ◌<◌, ℕ, List, [], ◌++◌, length, drop, MatchBool, IfSome, IfNone, OnOk, IfOk, IfErr};
 ghost use Rattle.descriptor_parse.specs.Items.{item_size, front_item};
 ghost use Rattle.descriptor_parse.specs.ItemViews.{item_view};
 ghost use Rattle.descriptor_parse.specs.Fed.{RefusesAll};
-ghost use Rattle.descriptor_parse.specs.Parse.{Answers};
+ghost use Rattle.descriptor_parse.specs.Parse.{Answers, Refuses};
 ghost use Rattle.descriptor_parse.specs.representation.Fed.{AreBytes, IsAt, IsFront};
 
 use crate::descriptor::Descriptor;
@@ -61,7 +61,7 @@ impl Reading {
         ensures refused { IfErr result (λ e. (text : List ℕ) → IsReading text self.old → RefusesAll (text ++ piece.now) e) }
     {
         let rest = fill(&mut self.part, piece);
-        let Some((item, _)) = cut(self.offset, &self.part) else {
+        let Some((item, _, _)) = cut(self.offset, &self.part) else {
             return Ok(());
         };
         self.offset = take_item(&mut self.state, &item, self.part.len())?;
@@ -104,19 +104,32 @@ pub(crate) fn end(state: State, left: &[u8], offset: usize) -> Result<Descriptor
     requires read { ∥ ((text : List ℕ) × AreBytes text × IsAt text left.now offset state) ∥₁ }
     ensures { (text : List ℕ) → IsAt text left.now offset state → Answers text result }
 {
+    if let Some(error) = end_error(&state, left, offset) {
+        return Err(error);
+    }
+    Ok(Descriptor::new(state.into_reports()))
+}
+
+/// The error of a text of which these bytes at an offset are left, which make no item; `None` if it may end there.
+pub(crate) fn end_error(state: &State, left: &[u8], offset: usize) -> Option<ParseError>
+    requires short { length left.now < item_size left.now }
+    ensures refused { IfSome result (λ e. (text : List ℕ) → IsAt text left.now offset state.now → Refuses text e) }
+    ensures whole { IfNone result (length left.now ≡ 0) }
+    ensures closed { IfNone result (state.now.collections ≡ 0) }
+{
     if has_bytes(left) {
-        return Err(ParseError {
+        return Some(ParseError {
             fault: ParseFault::Truncated,
             offset,
         });
     }
     if state.collections > 0 {
-        return Err(ParseError {
+        return Some(ParseError {
             fault: ParseFault::CollectionOpen,
             offset,
         });
     }
-    Ok(Descriptor::new(state.into_reports()))
+    None
 }
 
 /// Whether there are bytes of an item that is not whole.
@@ -165,8 +178,8 @@ pub(crate) fn read_items<'a>(
 {
     let mut at = offset;
     let mut rest = piece;
-    while let Some((item, after)) = cut(at, rest) {
-        at = take_item(state, &item, rest.len() - after.len())?;
+    while let Some((item, after, size)) = cut(at, rest) {
+        at = take_item(state, &item, size)?;
         rest = after;
     }
     Ok((at, rest))

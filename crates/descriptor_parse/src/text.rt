@@ -7,7 +7,7 @@ ghost use Rattle.descriptor_parse.specs.declared.fault.ParseFault.{ParseFault};
 
 use crate::descriptor::Descriptor;
 use crate::fault::ParseError;
-use crate::reading::{end, read_items};
+use crate::reading::{end_error, read_items};
 use crate::state::State;
 use std::alloc::Global;
 
@@ -25,5 +25,9 @@ pub fn parse(alloc: Global, text: &[u8]) -> Result<Descriptor, ParseError>
     // Without a `Parser`, which keeps bytes of an item that is not whole.
     let mut state = State::new(alloc);
     let (offset, left) = read_items(&mut state, 0, text)?;
-    end(state, left, offset)
+    // Before the state is given away, which would copy it for what drops it.
+    if let Some(error) = end_error(&state, left, offset) {
+        return Err(error);
+    }
+    Ok(Descriptor::new(state.into_reports()))
 }

@@ -20,6 +20,10 @@ pub fn read_usage(bytes: &[u8]) -> Usage
     requires not_three { length bytes.now ≢ 3 }
     ensures { result ≡ usage_of bytes.now }
 {
+    // Most usages have one byte.
+    if bytes.len() == 1 {
+        return Usage::Short(bytes[0] as u16);
+    }
     let number = unsigned(bytes);
     if bytes.len() == 4 {
         Usage::Whole(number)

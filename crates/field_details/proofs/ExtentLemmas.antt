@@ -25,7 +25,7 @@ unfolding tag_of
 tag_at prefix p e = rw e refl
 
 -- an item that is not skipped has none of them
-is_other : (p : ℕ) (item : ItemValue) (t : Tag) → tag_from p ≡ Skipped → tag item ≡ t → (t ≡ Skipped → ⊥) → is_with p item ≡ false
+pub is_other : (p : ℕ) (item : ItemValue) (t : Tag) → tag_from p ≡ Skipped → tag item ≡ t → (t ≡ Skipped → ⊥) → is_with p item ≡ false
 is_other p item t s e n =
     elim (cases_Bool (is_with p item)) [
       | inl w ↦ absurd (n (sym e ∙ tag_at item.prefix p (eqb-true _ _ w) ∙ s))

@@ -1,8 +1,9 @@
 pub mod ExtentLemmas
 pub mod ReportLemmas
+pub mod PartLemmas
+pub mod NameLemmas
 pub mod WalkLemmas
 pub mod FieldLemmas
 pub mod AroundLemmas
 pub mod OutwardLemmas
 pub mod LeftLemmas
-pub mod NameLemmas

@@ -1,8 +1,6 @@
 -- What an item changes in all that is kept.
-use Rattle.std.proofs.Common.{◌≡◌, ◌≢◌, ℕ, zero, suc, ◌+◌, ◌-◌, ◌^◌, ◌<◌, ◌≤◌, ◌%◌, List, [], ◌∷◌, ◌++◌, length, take, drop, refl, arith, sym, ◌∙◌, ap, Bool, true, false, cond, Some, None, inl, inr, length-append, length-drop, Result, Ok, Err, OnOk}
-use Rattle.std.proofs.lemmas.Bool.{cases_Bool, cond_both, ne_eqb, ltb-false}
-use Rattle.std.proofs.lemmas.List.{length-take}
-use Rattle.std.specs.Prelude.{filter, min, nat_lt, ◌==◌, option_map, Option}
+use Rattle.std.proofs.Common.{◌≡◌, ◌≢◌, ℕ, ◌-◌, ◌^◌, ◌<◌, List, [], ◌∷◌, ◌++◌, length, refl, arith, sym, ◌∙◌, ap, Bool, true, false, cond, Some, None, length-append, Result, Ok, Err, OnOk}
+use Rattle.std.specs.Prelude.{filter, min, option_map, Option}
 use Rattle.std.specs.Option.{option_or}
 use Rattle.descriptor_parse.specs.declared.field.Kind.{Kind}
 use Rattle.descriptor_parse.specs.declared.tag.Tag.{Tag}
@@ -11,7 +9,7 @@ use Rattle.descriptor_parse.specs.declared.tag.MainTag.{MainTag}
 use Rattle.descriptor_parse.specs.declared.tag.MainTag.TheVariants.{Data, Collection, EndCollection}
 use Rattle.descriptor_parse.specs.declared.tag.LocalTag.{LocalTag}
 use Rattle.descriptor_parse.specs.declared.tag.LocalTag.TheVariants.{Usage}
-use Rattle.descriptor_parse.specs.Items.{ItemValue, data_size, item_size, front_item, first_items, items_at}
+use Rattle.descriptor_parse.specs.Items.{ItemValue}
 use Rattle.descriptor_parse.specs.Tags.{tag, tag_of, is_main, is_data, is_collection, is_end_collection}
 use Rattle.descriptor_parse.specs.Globals.{unsigned, in_force, report_id}
 use Rattle.descriptor_parse.specs.declared.globals.Globals.{Globals}
@@ -21,19 +19,24 @@ use Rattle.descriptor_parse.specs.Fields.{takes_bit, report_bits}
 use Rattle.descriptor_parse.specs.declared.usage.Usage.{Usage as Written}
 use Rattle.descriptor_parse.specs.representation.Written.{usage_of, usage_on}
 use Rattle.descriptor_parse.proofs.LocalLemmas.{number_on}
-use Rattle.field_details.specs.representation.Asked.{AreShort}
 use Rattle.field_details.specs.declared.walk.Walk.{Walk}
 use Rattle.field_details.specs.declared.extents.Extents.{Extents}
 use Rattle.field_details.specs.Collections.{is_usage, first_usage, open_now, collections, collection_count, without_last, innermost, declared_collection}
-use Rattle.field_details.specs.Details.{details, declared_detail}
+use Rattle.field_details.specs.Details.{has_place, details, declared_detail}
+use Rattle.field_details.specs.representation.Named.{ArePending, NamesRefine}
 use Rattle.field_details.specs.representation.Relation.{WalkRefines, extents_of, detail_by}
 use Rattle.descriptor_parse.specs.representation.StackRefines.{StackRefines}
 use Rattle.field_details.proofs.ExtentLemmas.{refine_known}
+use Rattle.field_details.proofs.NameLemmas.{pending_known, pending_main, names_other}
 use Rattle.field_details.proofs.ReportLemmas.{details_other}
 
 pub on_ok : {A E : Type 0} (r : Result A E) {P Q : Type 0} → (P → Q) → OnOk r P → OnOk r Q
 on_ok (Ok x) f p = f p
 on_ok (Err e) f p = tt
+
+pub both_ok : {A E : Type 0} (r : Result A E) {P Q R : Type 0} → (P → Q → R) → OnOk r P → OnOk r Q → OnOk r R
+both_ok (Ok x) f p q = f p q
+both_ok (Err e) f p q = tt
 
 -- ---- usages
 
@@ -98,22 +101,33 @@ pub collections_same : (before : List ItemValue) (item : ItemValue) → is_colle
 unfolding collections
 collections_same before item o = rw o refl
 
+no_item : (before : List ItemValue) (item : ItemValue) → is_data (tag item) ≡ false → has_place before item ≡ false
+no_item before item n = rw n refl
+
+-- what is reported has the same names
+names_same : (before : List ItemValue) (item : ItemValue) (old new : Walk) → has_place before item ≡ false → is_collection (tag item) ≡ false
+    → new.reported ≡ old.reported → WalkRefines before old → NamesRefine (item ∷ before) new.reported.names
+names_same before item old new place group same s = rw same (names_other before item old.reported.names place group s.names)
+
 plain : (before : List ItemValue) (item : ItemValue) (old new : Walk) → IsPlain (tag item) → StackRefines extents_of (item ∷ before) new.extents
-    → new.usage ≡ option_map usage_of (first_usage (since_main (item ∷ before))) → new.opened ≡ old.opened → new.reported ≡ old.reported
-    → WalkRefines before old → WalkRefines (item ∷ before) new
-plain before item old new p extents usage opened reported s = record {
+    → new.usage ≡ option_map usage_of (first_usage (since_main (item ∷ before))) → new.opened ≡ old.opened → ArePending (since_main (item ∷ before)) new.pending
+    → new.reported ≡ old.reported → WalkRefines before old → WalkRefines (item ∷ before) new
+plain before item old new p extents usage opened pending reported s = record {
   extents = extents;
   usage = usage;
   opened = ap (λ v. v.items) opened ∙ s.opened ∙ sym (open_same before item p.opens p.ends);
   fields = ap (λ d. d.fields.items) reported ∙ s.fields ∙ sym (details_other before item p.items);
   groups = ap (λ d. d.collections.items) reported ∙ s.groups ∙ sym (collections_same before item p.opens);
+  pending = pending;
+  names = names_same before item old new (no_item before item p.items) p.opens reported s;
 }
 
 -- a Global item, or one that is skipped
 pub refine_extents : (before : List ItemValue) (item : ItemValue) (old new : Walk) → is_main (tag item) ≡ false → is_usage (tag item) ≡ false → StackRefines extents_of (item ∷ before) new.extents
-    → new.usage ≡ old.usage → new.opened ≡ old.opened → new.reported ≡ old.reported → WalkRefines before old → WalkRefines (item ∷ before) new
-refine_extents before item old new m u extents usage opened reported s =
-    plain before item old new (not_main (tag item) m) extents (usage ∙ s.usage ∙ sym (ap (option_map usage_of) (usage_same before item m u))) opened reported s
+    → new.usage ≡ old.usage → new.opened ≡ old.opened → ArePending (since_main (item ∷ before)) new.pending → new.reported ≡ old.reported
+    → WalkRefines before old → WalkRefines (item ∷ before) new
+refine_extents before item old new m u extents usage opened pending reported s =
+    plain before item old new (not_main (tag item) m) extents (usage ∙ s.usage ∙ sym (ap (option_map usage_of) (usage_same before item m u))) opened pending reported s
 
 local_extents : (before : List ItemValue) (item : ItemValue) (l : LocalTag) (walk : Walk) → tag item ≡ Local l → WalkRefines before walk → StackRefines extents_of (item ∷ before) walk.extents
 local_extents before item l walk e s = refine_known before item (Local l) walk.extents e (λ no. cc) refl refl s.extents
@@ -126,15 +140,17 @@ no_usage _ n = refl
 pub refine_local : (before : List ItemValue) (item : ItemValue) (l : LocalTag) (walk : Walk) → tag item ≡ Local l → (l ≡ Usage → ⊥)
     → WalkRefines before walk → WalkRefines (item ∷ before) walk
 refine_local before item l walk e n s =
-    refine_extents before item walk walk (ap is_main e) (ap is_usage e ∙ no_usage l n) (local_extents before item l walk e s) refl refl refl s
+    refine_extents before item walk walk (ap is_main e) (ap is_usage e ∙ no_usage l n) (local_extents before item l walk e s) refl refl
+    (pending_known before item (Local l) walk.pending e (λ no. cc) refl s.pending) refl s
 
 pub refine_usage : (before : List ItemValue) (item : ItemValue) (usage : Written) (old new : Walk) → tag item ≡ Local Usage → usage ≡ usage_of item.bytes
     → new ≡ record old { usage = option_or old.usage (Some usage) } → WalkRefines before old → WalkRefines (item ∷ before) new
 refine_usage before item usage old new e u w s =
     let extents : new.extents ≡ old.extents = ap (λ v. v.extents) w in
+    let pending : new.pending ≡ old.pending = ap (λ v. v.pending) w in
     plain before item old new (rw e (plain_local Usage)) (rw extents (local_extents before item Usage old e s))
     (ap (λ v. v.usage) w ∙ rw (s.usage, u, usage_more before item e) (sym (mapped_or usage_of (first_usage (since_main before)) item.bytes)))
-    (ap (λ v. v.opened) w) (ap (λ v. v.reported) w) s
+    (ap (λ v. v.opened) w) (rw pending (pending_known before item (Local Usage) old.pending e (λ no. cc) refl s.pending)) (ap (λ v. v.reported) w) s
 
 -- ---- Main items
 
@@ -158,25 +174,29 @@ details_empty before item k e t = rw (e, t) refl
 pub refine_placed : (before : List ItemValue) (item : ItemValue) (k : Kind) (old new : Walk) → tag item ≡ Main (Data k) → takes_bit before ≡ true
     → new.extents ≡ old.extents → new.usage ≡ None → new.opened ≡ old.opened
     → new.reported.fields.items ≡ old.reported.fields.items ++ declared_detail before item ∷ [] → new.reported.collections ≡ old.reported.collections
-    → WalkRefines before old → WalkRefines (item ∷ before) new
-refine_placed before item k old new e t extents usage opened fields groups s = record {
+    → ArePending [] new.pending → NamesRefine (item ∷ before) new.reported.names → WalkRefines before old → WalkRefines (item ∷ before) new
+refine_placed before item k old new e t extents usage opened fields groups pending names s = record {
   extents = main_extents before item (Data k) old new e extents s;
   usage = usage ∙ main_usage before item (Data k) e;
   opened = ap (λ v. v.items) opened ∙ s.opened ∙ sym (open_same before item (ap is_collection e) (ap is_end_collection e));
   fields = fields ∙ ap (λ xs. xs ++ declared_detail before item ∷ []) s.fields ∙ sym (details_placed before item k e t);
   groups = ap (λ v. v.items) groups ∙ s.groups ∙ sym (collections_same before item (ap is_collection e));
+  pending = pending_main before item new.pending (ap is_main e) pending;
+  names = names;
 }
 
 -- one that takes none
 pub refine_empty : (before : List ItemValue) (item : ItemValue) (k : Kind) (old new : Walk) → tag item ≡ Main (Data k) → takes_bit before ≡ false
-    → new.extents ≡ old.extents → new.usage ≡ None → new.opened ≡ old.opened → new.reported ≡ old.reported
+    → new.extents ≡ old.extents → new.usage ≡ None → new.opened ≡ old.opened → new.reported ≡ old.reported → ArePending [] new.pending
     → WalkRefines before old → WalkRefines (item ∷ before) new
-refine_empty before item k old new e t extents usage opened reported s = record {
+refine_empty before item k old new e t extents usage opened reported pending s = record {
   extents = main_extents before item (Data k) old new e extents s;
   usage = usage ∙ main_usage before item (Data k) e;
   opened = ap (λ v. v.items) opened ∙ s.opened ∙ sym (open_same before item (ap is_collection e) (ap is_end_collection e));
   fields = ap (λ d. d.fields.items) reported ∙ s.fields ∙ sym (details_empty before item k e t);
   groups = ap (λ d. d.collections.items) reported ∙ s.groups ∙ sym (collections_same before item (ap is_collection e));
+  pending = pending_main before item new.pending (ap is_main e) pending;
+  names = names_same before item old new (rw (e, t) refl) (ap is_collection e) reported s;
 }
 
 -- the number of the next collection
@@ -201,8 +221,8 @@ collections_more before item e = rw e refl
 pub refine_opened : (before : List ItemValue) (item : ItemValue) (old new : Walk) → tag item ≡ Main Collection
     → new.extents ≡ old.extents → new.usage ≡ None → new.opened.items ≡ old.opened.items ++ length old.reported.collections.items ∷ []
     → new.reported.fields ≡ old.reported.fields → new.reported.collections.items ≡ old.reported.collections.items ++ declared_collection before item ∷ []
-    → WalkRefines before old → WalkRefines (item ∷ before) new
-refine_opened before item old new e extents usage opened fields groups s =
+    → ArePending [] new.pending → NamesRefine (item ∷ before) new.reported.names → WalkRefines before old → WalkRefines (item ∷ before) new
+refine_opened before item old new e extents usage opened fields groups pending names s =
     let number : length old.reported.collections.items ≡ collection_count before = ap length s.groups ∙ count_is before in
     record {
       extents = main_extents before item Collection old new e extents s;
@@ -210,6 +230,8 @@ refine_opened before item old new e extents usage opened fields groups s =
       opened = opened ∙ rw (s.opened, number) (sym (open_more before item e));
       fields = ap (λ v. v.items) fields ∙ s.fields ∙ sym (details_other before item (ap is_data e));
       groups = groups ∙ ap (λ xs. xs ++ declared_collection before item ∷ []) s.groups ∙ sym (collections_more before item e);
+      pending = pending_main before item new.pending (ap is_main e) pending;
+      names = names;
     }
 
 pub open_fewer : (before : List ItemValue) (item : ItemValue) → tag item ≡ Main EndCollection → open_now (item ∷ before) ≡ without_last (open_now before)
@@ -217,53 +239,24 @@ unfolding open_now
 open_fewer before item e = rw e refl
 
 pub refine_closed : (before : List ItemValue) (item : ItemValue) (old new : Walk) → tag item ≡ Main EndCollection
-    → new.extents ≡ old.extents → new.usage ≡ None → new.opened.items ≡ without_last old.opened.items → new.reported ≡ old.reported
+    → new.extents ≡ old.extents → new.usage ≡ None → new.opened.items ≡ without_last old.opened.items → new.reported ≡ old.reported → ArePending [] new.pending
     → WalkRefines before old → WalkRefines (item ∷ before) new
-refine_closed before item old new e extents usage opened reported s = record {
+refine_closed before item old new e extents usage opened reported pending s = record {
   extents = main_extents before item EndCollection old new e extents s;
   usage = usage ∙ main_usage before item EndCollection e;
   opened = opened ∙ ap without_last s.opened ∙ sym (open_fewer before item e);
   fields = ap (λ d. d.fields.items) reported ∙ s.fields ∙ sym (details_other before item (ap is_data e));
   groups = ap (λ d. d.collections.items) reported ∙ s.groups ∙ sym (collections_same before item (ap is_collection e));
+  pending = pending_main before item new.pending (ap is_main e) pending;
+  names = names_same before item old new (no_item before item (ap is_data e)) (ap is_collection e) reported s;
 }
 
-pub refine_new : (walk : Walk) → StackRefines extents_of [] walk.extents → walk.usage ≡ None → walk.opened.items ≡ [] → walk.reported.fields.items ≡ [] → walk.reported.collections.items ≡ [] → WalkRefines [] walk
+pub refine_new : (walk : Walk) → StackRefines extents_of [] walk.extents → walk.usage ≡ None → walk.opened.items ≡ [] → walk.reported.fields.items ≡ [] → walk.reported.collections.items ≡ []
+    → ArePending [] walk.pending → NamesRefine [] walk.reported.names → WalkRefines [] walk
 unfolding open_now details collections
-refine_new walk extents usage opened fields groups = record { extents = extents; usage = usage; opened = opened; fields = fields; groups = groups }
+refine_new walk extents usage opened fields groups pending names = record { extents = extents; usage = usage; opened = opened; fields = fields; groups = groups; pending = pending; names = names }
 
 -- a long item is skipped
 pub long_skipped : (prefix : ℕ) (t : Tag) → tag_of prefix ≡ t → (t ≡ Skipped → ⊥) → prefix ≢ 254
 unfolding tag_of
 long_skipped prefix t e n = λ long. n (sym e ∙ (rw long refl))
-
--- ---- all items of a text
-
-data_few : (prefix : ℕ) → (data_size prefix ≤ 4) × (data_size prefix ≢ 3)
-data_few prefix = cond_both (prefix % 4 == 3) 4 (prefix % 4) (λ n. (n ≤ 4) × (n ≢ 3)) (λ e. (omega arith, omega arith))
-    (λ e. (omega arith, λ three. let no = rw three at e in cc))
-
-front_few : (offset b : ℕ) (bs : List ℕ) → b ≢ 254 → item_size (b ∷ bs) ≤ length (b ∷ bs)
-    → (length (front_item offset (b ∷ bs)).bytes ≤ 4) × (length (front_item offset (b ∷ bs)).bytes ≢ 3)
-front_few offset b bs short whole =
-    let no : (b == 254) ≡ false = ne_eqb b 254 short in
-    let few = data_few b in
-    let fits : 1 + data_size b ≤ length (b ∷ bs) = (rw no at whole) in
-    let all : length (drop 1 (take (1 + data_size b) (b ∷ bs))) ≡ data_size b =
-    (let d : length (drop 1 (take (1 + data_size b) (b ∷ bs))) ≡ length (take (1 + data_size b) (b ∷ bs)) - 1 = length-drop 1 (take (1 + data_size b) (b ∷ bs)) in
-    let t : length (take (1 + data_size b) (b ∷ bs)) ≡ min (1 + data_size b) (length (b ∷ bs)) = length-take (1 + data_size b) (b ∷ bs) in
-    omega arith) in
-    rw (no, all) few
-
-pub all_short : (n offset : ℕ) (text : List ℕ) → AreShort (first_items n offset text)
-unfolding first_items
-all_short zero offset text = tt
-all_short (suc n) offset [] = tt
-all_short (suc n) offset (b ∷ bs) =
-    elim (cases_Bool (nat_lt (length (b ∷ bs)) (item_size (b ∷ bs)))) [
-      | inl cut ↦ rw cut tt
-      | inr whole ↦ rw whole (λ short. front_few offset b bs short (ltb-false _ _ whole), all_short n (offset + item_size (b ∷ bs)) (drop (item_size (b ∷ bs)) (b ∷ bs)))
-    ]
-
-pub all_short_items : (text : List ℕ) → AreShort (items_at 0 text)
-unfolding items_at
-all_short_items text = all_short (length text) 0 text

@@ -1,12 +1,16 @@
 //! What was declared.
 
 ghost use Rattle.std.specs.Prelude.{◌≡◌, List, []};
+ghost use Rattle.shapes.specs.Shapes.{Bytes};
 ghost use Rattle.descriptor_parse.specs.Items.{ItemValue};
+ghost use Rattle.descriptor_parse.specs.Faults.{all_items};
+ghost use Rattle.field_details.specs.declared.naming.Naming.{Naming};
 
 use crate::applications::Applications;
 use crate::around::{Around, application_of};
 use crate::collection::Collection;
 use crate::detail::Detail;
+use crate::names::Names;
 use crate::placed::{PlacedFields, Question};
 use crate::report::{Reports, ReportsOf};
 use descriptor_parse::Kind;
@@ -23,19 +27,24 @@ pub struct Details {
     pub fields: Vec<Detail>,
     /// The collections, in order of declaration.
     pub collections: Vec<Collection>,
+    pub(crate) names: Names,
 }
 
 impl Details {
     ghost use Rattle.field_details.specs.Around.{Tells, around, application};
+    ghost use Rattle.field_details.specs.Names.{field_names, collection_names};
+    ghost use Rattle.field_details.specs.representation.Named.{TellsNames};
     ghost use Rattle.field_details.specs.Reports.{data_fields, padding, report, reports, reports_of, applications, applications_of};
 
     pub(crate) fn new(alloc: Global) -> Details
         ensures fields { result.fields.items ≡ [] }
         ensures collections { result.collections.items ≡ [] }
+        ensures names { TellsNames [] result }
     {
         Details {
             fields: Vec::new(alloc),
             collections: Vec::new(alloc),
+            names: Names::new(alloc),
         }
     }
 
@@ -102,5 +111,36 @@ impl Details {
         ensures { (items : List ItemValue) → Tells items self.now → result ≡ applications_of items kind id }
     {
         Applications::new(Some((kind, id)), &self.fields, &self.collections)
+    }
+
+    /// The strings of a data item, as ranges of string indices, first and last of each: those that the Local items since the
+    /// Main item before it declare, in order. A String Index is a range of its own, and so is a String Minimum with the Maximum
+    /// after it. A Minimum or Maximum without its other half gives none; where the Minimum is over the Maximum, both are given
+    /// as they stand (HID 1.11, 6.2.2.8). It is empty where there is no such data item.
+    pub fn strings(&self, place: usize) -> &[(u32, u32)]
+        ensures { (text : Bytes) → TellsNames (all_items text) self.now → result.now ≡ field_names Naming.Strings (all_items text) place }
+    {
+        self.names.strings.of_field(place)
+    }
+
+    /// The designators of a data item, as [`strings`](Details::strings) gives strings: indices in the physical descriptor.
+    pub fn designators(&self, place: usize) -> &[(u32, u32)]
+        ensures { (text : Bytes) → TellsNames (all_items text) self.now → result.now ≡ field_names Naming.Designators (all_items text) place }
+    {
+        self.names.designators.of_field(place)
+    }
+
+    /// The strings of a collection.
+    pub fn collection_strings(&self, number: usize) -> &[(u32, u32)]
+        ensures { (text : Bytes) → TellsNames (all_items text) self.now → result.now ≡ collection_names Naming.Strings (all_items text) number }
+    {
+        self.names.strings.of_collection(number)
+    }
+
+    /// The designators of a collection.
+    pub fn collection_designators(&self, number: usize) -> &[(u32, u32)]
+        ensures { (text : Bytes) → TellsNames (all_items text) self.now → result.now ≡ collection_names Naming.Designators (all_items text) number }
+    {
+        self.names.designators.of_collection(number)
     }
 }

@@ -6,6 +6,7 @@ ghost use Rattle.descriptor_parse.specs.Descriptor.{Describes};
 ghost use Rattle.descriptor_parse.specs.Faults.{IsFaultless, all_items};
 ghost use Rattle.field_details.specs.Collections.{collections};
 ghost use Rattle.field_details.specs.Details.{details};
+ghost use Rattle.field_details.specs.representation.Named.{TellsNames};
 
 use crate::details::Details;
 use crate::walk::Walk;
@@ -20,6 +21,7 @@ pub fn parse_details(alloc: Global, text: &[u8]) -> Result<(Descriptor, Details)
     ensures described { IfOk result (λ r. Describes (all_items text.now) r.0) }
     ensures fields { IfOk result (λ r. r.1.fields.items ≡ details (all_items text.now)) }
     ensures collections { IfOk result (λ r. r.1.collections.items ≡ collections (all_items text.now)) }
+    ensures names { IfOk result (λ r. TellsNames (all_items text.now) r.1) }
     ensures refused { IfErr result (IsRefusal text.now) }
 {
     let mut walk = Walk::new(alloc);

@@ -1,6 +1,6 @@
 //! The walk over the items of a text, which keeps what is in force beside the parser.
 
-ghost use Rattle.std.specs.Prelude.{◌≡◌, ◌≢◌, ◌≤◌, List, [], ◌∷◌, OnOk, length, Some, option_map};
+ghost use Rattle.std.specs.Prelude.{◌≡◌, ◌≢◌, ◌≤◌, List, [], ◌∷◌, OnOk, length, None, Some, option_map};
 ghost use Rattle.std.specs.Option.{option_or};
 ghost use Rattle.descriptor_parse.specs.Items.{ItemValue};
 ghost use Rattle.descriptor_parse.specs.Tags.{tag_of};
@@ -12,12 +12,14 @@ ghost use Rattle.descriptor_parse.specs.representation.StateRefines.{StateRefine
 ghost use Rattle.descriptor_parse.specs.representation.Written.{usage_on};
 ghost use Rattle.field_details.specs.Collections.{innermost, declared_collection};
 ghost use Rattle.field_details.specs.Details.{declared_detail};
+ghost use Rattle.field_details.specs.representation.Named.{ArePending};
 ghost use Rattle.field_details.specs.representation.Relation.{WalkRefines, detail_by};
 
 use crate::collection::Collection;
 use crate::detail::Detail;
 use crate::details::Details;
 use crate::extents::{Extents, take_global, take_skipped};
+use crate::pending::AllPending;
 use descriptor_parse::beside::Beside;
 use descriptor_parse::globals::Globals;
 use descriptor_parse::number::unsigned;
@@ -35,6 +37,7 @@ pub(crate) struct Walk {
     pub(crate) usage: Option<Usage>,
     /// The numbers of the collections that are open, outermost first.
     pub(crate) opened: Vec<usize>,
+    pub(crate) pending: AllPending,
     pub(crate) reported: Details,
 }
 
@@ -46,6 +49,7 @@ impl Walk {
             extents: Stack::new(alloc, Extents::NONE),
             usage: None,
             opened: Vec::new(alloc),
+            pending: AllPending::new(alloc),
             reported: Details::new(alloc),
         }
     }
@@ -59,6 +63,7 @@ impl Walk {
             extents: _,
             usage: _,
             opened: _,
+            pending: _,
         } = self;
         reported
     }
@@ -118,12 +123,14 @@ impl Walk {
             → unsigned item.bytes ≡ flags → StateRefines items before.now → WalkRefines items self.old → WalkRefines (item ∷ items) self.new) }
     {
         if !fills(before.globals()) {
-            self.usage = None;
+            self.end_locals();
             return Ok(());
         }
         let detail = self.detail(kind, offset, flags, before);
+        let place = self.reported.fields.len();
+        self.reported.names.name_field(place, &self.pending)?;
         self.reported.fields.push(detail)?;
-        self.usage = None;
+        self.end_locals();
         Ok(())
     }
 
@@ -162,9 +169,11 @@ impl Walk {
             → unsigned item.bytes ≡ kind → StateRefines items before.now → WalkRefines items self.old → WalkRefines (item ∷ items) self.new) }
     {
         let collection = self.collection(offset, kind, before);
-        self.opened.push(self.reported.collections.len())?;
+        let number = self.reported.collections.len();
+        self.reported.names.name_collection(number, &self.pending)?;
+        self.opened.push(number)?;
         self.reported.collections.push(collection)?;
-        self.usage = None;
+        self.end_locals();
         Ok(())
     }
 
@@ -187,7 +196,17 @@ impl Walk {
             → WalkRefines before self.old → WalkRefines (item ∷ before) self.new }
     {
         let _ = self.opened.pop();
+        self.end_locals();
+    }
+
+    /// Ends the Local items at a Main item.
+    fn end_locals(&mut self)
+        ensures usage { self.new.usage ≡ None }
+        ensures pending { ArePending [] self.new.pending }
+        ensures same { self.new ≡ record self.old { usage = self.new.usage; pending = self.new.pending } }
+    {
         self.usage = None;
+        self.pending.clear();
     }
 }
 
@@ -204,7 +223,7 @@ impl Beside for Walk {
             }
             Tag::Skipped => {
                 take_skipped(&mut self.extents, item.prefix, item.bytes);
-                Ok(())
+                self.pending.take(item)
             }
         }
     }

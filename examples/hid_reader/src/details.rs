@@ -7,7 +7,7 @@ use crate::handles::{Entry, Error, TABLE, both, kind_of, number_of, of_reader, t
 use crate::status::Status;
 use core::ffi::c_char;
 use core::fmt;
-use wuzhikar_hid::{Detail, Naming, Reader, ReaderError, UsageName, namings, page_name};
+use wuzhikar_hid::{Detail, Details, Reader, ReaderError, UsageName, page_name};
 
 /// `HIDR_NONE`
 const NONE: u32 = u32::MAX;
@@ -307,31 +307,63 @@ pub extern "C" fn hidr_report_details(
     })
 }
 
+/// Puts the strings or designators that details have.
+fn put_names(
+    reader: u64,
+    into: Outputs<Range>,
+    room: usize,
+    count: Output<usize>,
+    names: impl FnOnce(&Details) -> Option<&[(u32, u32)]>,
+) -> Status {
+    told(|| {
+        let (count, into) = (count.place()?, into.places(room)?);
+        of_reader(reader, |reader| {
+            let ranges = names(reader.details()).ok_or(Status::Absent)?;
+            count.put(into.put_all(ranges.iter().map(|(first, last)| Range::new(*first, *last))));
+            Ok(())
+        })
+    })
+}
+
 #[unsafe(no_mangle)]
-pub extern "C" fn hidr_namings(
-    text: Input,
-    length: usize,
-    offset: u64,
-    naming: u8,
+pub extern "C" fn hidr_strings(reader: u64, item: usize, into: Outputs<Range>, room: usize, count: Output<usize>) -> Status {
+    put_names(reader, into, room, count, |told| told.fields.get(item).map(|_| told.strings(item)))
+}
+
+#[unsafe(no_mangle)]
+pub extern "C" fn hidr_designators(
+    reader: u64,
+    item: usize,
     into: Outputs<Range>,
     room: usize,
     count: Output<usize>,
 ) -> Status {
-    told(|| {
-        let count = count.place()?;
-        let (into, text) = both(into.places(room), text.bytes(length))?;
-        if into.overlap(text) {
-            return Err(Status::Overlap);
-        }
-        let naming = match naming {
-            0 => Naming::String,
-            1 => Naming::Designator,
-            _ => return Err(Status::Absent),
-        };
-        let offset = usize::try_from(offset).unwrap_or(usize::MAX);
-        let ranges = namings(text, offset, naming).map(|range| Range::new(*range.start(), *range.end()));
-        count.put(into.put_all(ranges));
-        Ok(())
+    put_names(reader, into, room, count, |told| told.fields.get(item).map(|_| told.designators(item)))
+}
+
+#[unsafe(no_mangle)]
+pub extern "C" fn hidr_collection_strings(
+    reader: u64,
+    collection: usize,
+    into: Outputs<Range>,
+    room: usize,
+    count: Output<usize>,
+) -> Status {
+    put_names(reader, into, room, count, |told| {
+        told.collections.get(collection).map(|_| told.collection_strings(collection))
+    })
+}
+
+#[unsafe(no_mangle)]
+pub extern "C" fn hidr_collection_designators(
+    reader: u64,
+    collection: usize,
+    into: Outputs<Range>,
+    room: usize,
+    count: Output<usize>,
+) -> Status {
+    put_names(reader, into, room, count, |told| {
+        told.collections.get(collection).map(|_| told.collection_designators(collection))
     })
 }
 

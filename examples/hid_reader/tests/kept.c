@@ -73,7 +73,11 @@ static hidr_status g9(uint64_t r, struct outputs *to) {
     return hidr_changes(r, 0, REPORT, 7, REPORT, 7, to->numbers, 1, &to->count, to->numbers + 1, 1, &to->rest);
 }
 static hidr_status g8(uint64_t r, struct outputs *to) { return hidr_applications_of(r, 0, 0, to->numbers, 2, &to->count); }
-static with_reader *const CALLS[] = {f0, f1, f2, f3, f4, f5, f6, f7, f8, f9, g0, g1, g2, g3, g4, g5, g6, g7, g8, g9, h0};
+static hidr_status h1(uint64_t r, struct outputs *to) { return hidr_strings(r, 0, to->ranges, 2, &to->count); }
+static hidr_status h2(uint64_t r, struct outputs *to) { return hidr_designators(r, 0, to->ranges, 2, &to->count); }
+static hidr_status h3(uint64_t r, struct outputs *to) { return hidr_collection_strings(r, 0, to->ranges, 2, &to->count); }
+static hidr_status h4(uint64_t r, struct outputs *to) { return hidr_collection_designators(r, 0, to->ranges, 2, &to->count); }
+static with_reader *const CALLS[] = {f0, f1, f2, f3, f4, f5, f6, f7, f8, f9, g0, g1, g2, g3, g4, g5, g6, g7, g8, g9, h0, h1, h2, h3, h4};
 #define CALL_COUNT (sizeof CALLS / sizeof CALLS[0])
 
 static void each_answers(uint64_t handle, hidr_status status) {
@@ -152,7 +156,10 @@ static void null_pointers(hidr_reader r) {
     ANSWERS(HIDR_NULL, hidr_applications_of(r, 0, 0, NULL, 1, &to.count));
     ANSWERS(HIDR_NULL, hidr_applications_of(r, 0, 0, to.numbers, 1, NULL));
     ANSWERS(HIDR_NULL, hidr_report_details(r, 0, 0, NULL, 1, &to.count));
-    ANSWERS(HIDR_NULL, hidr_namings(NULL, 1, 0, 0, to.ranges, SIZE_MAX, &to.count));
+    ANSWERS(HIDR_NULL, hidr_strings(r, 0, NULL, 1, &to.count));
+    ANSWERS(HIDR_NULL, hidr_designators(r, 0, to.ranges, 1, NULL));
+    ANSWERS(HIDR_NULL, hidr_collection_strings(r, 0, NULL, 1, &to.count));
+    ANSWERS(HIDR_NULL, hidr_collection_designators(r, 0, to.ranges, 1, NULL));
     ANSWERS(HIDR_NULL, hidr_unit_exponents(r, 0, NULL));
     ANSWERS(HIDR_NULL, hidr_unit_name(r, 0, NULL, 1, &to.count));
     ANSWERS(HIDR_NULL, hidr_collection_name(r, 0, to.text, 1, NULL));
@@ -179,6 +186,7 @@ static void lengths_and_overlaps(hidr_reader r) {
     struct outputs to;
     FILL(to);
     ANSWERS(HIDR_LENGTH, hidr_reports(0, to.reports, SIZE_MAX / 8, &to.count));
+    ANSWERS(HIDR_LENGTH, hidr_strings(0, 0, to.ranges, SIZE_MAX / 8, &to.count));
     ANSWERS(HIDR_LENGTH, hidr_usage_name(0, to.text, SIZE_MAX, &to.count));
     ANSWERS(HIDR_LENGTH, hidr_read(0, 0, REPORT, 7, to.values, SIZE_MAX / 16, &to.count, &to.rest));
     ANSWERS(HIDR_LENGTH, hidr_changes(0, 0, REPORT, SIZE_MAX, REPORT, 7, to.numbers, 1, &to.count, to.numbers, 1, &to.rest));
@@ -189,7 +197,6 @@ static void lengths_and_overlaps(hidr_reader r) {
     memcpy(over + 100, REPORT, sizeof REPORT);
     ANSWERS(HIDR_OVERLAP, hidr_read(r, 0, over + 100, 7, (hidr_value *)(void *)(over + 80), 1, &to.count, &to.rest));
     ANSWERS(HIDR_OVERLAP, hidr_read(r, 0, over + 100, 7, (hidr_value *)(void *)(over + 106), 9, &to.count, &to.rest));
-    ANSWERS(HIDR_OVERLAP, hidr_namings(over + 100, 7, 9, 0, (hidr_range *)(void *)(over + 93), 1, &to.count));
     UNTOUCHED(to);
     CHECK(memcmp(over + 100, REPORT, sizeof REPORT) == 0);
     ANSWERS(HIDR_OK, hidr_read(r, 0, over + 100, 7, (hidr_value *)(void *)(over + 107), 9, &to.count, NULL));
@@ -198,7 +205,6 @@ static void lengths_and_overlaps(hidr_reader r) {
     /* Where there is room for nothing, nothing is written, wherever it points. */
     ANSWERS(HIDR_OK, hidr_read(r, 0, over + 100, 7, (hidr_value *)(void *)(over + 103), 0, &to.count, NULL));
     CHECK(to.count == 9);
-    ANSWERS(HIDR_OK, hidr_namings(over + 100, 7, 9, 0, (hidr_range *)(void *)(over + 103), 0, &to.count));
 }
 
 static void what_is_absent(hidr_reader r) {
@@ -215,7 +221,10 @@ static void what_is_absent(hidr_reader r) {
     ANSWERS(HIDR_ABSENT, hidr_applications_of(r, 3, 0, to.numbers, 2, &to.count));
     ANSWERS(HIDR_ABSENT, hidr_report_details(r, 0, 1, to.numbers, 2, &to.count));
     ANSWERS(HIDR_ABSENT, hidr_report_details(r, 3, 0, to.numbers, 2, &to.count));
-    ANSWERS(HIDR_ABSENT, hidr_namings(TEXT, sizeof TEXT, 25, 2, to.ranges, 2, &to.count));
+    ANSWERS(HIDR_ABSENT, hidr_strings(r, 8, to.ranges, 2, &to.count));
+    ANSWERS(HIDR_ABSENT, hidr_designators(r, 8, to.ranges, 2, &to.count));
+    ANSWERS(HIDR_ABSENT, hidr_collection_strings(r, 1, to.ranges, 2, &to.count));
+    ANSWERS(HIDR_ABSENT, hidr_collection_designators(r, SIZE_MAX, to.ranges, 2, &to.count));
     ANSWERS(HIDR_ABSENT, hidr_unit_exponents(r, 8, to.exponents));
     ANSWERS(HIDR_ABSENT, hidr_unit_name(r, 8, to.text, 8, &to.count));
     ANSWERS(HIDR_ABSENT, hidr_collection_name(r, 1, to.text, 8, &to.count));
@@ -229,6 +238,13 @@ static void what_is_absent(hidr_reader r) {
     ANSWERS(HIDR_UNKNOWN_REPORT, hidr_buffered(r, 3, REPORT, 7, 2, to.bytes, 8, &to.count));
     ANSWERS(HIDR_ABSENT, hidr_buffered(r, 0, REPORT, 7, 0, to.bytes, 8, &to.count));
     ANSWERS(HIDR_ABSENT, hidr_buffered(r, HIDR_OUTPUT, REPORT, 7, 2, to.bytes, 8, &to.count));
+    UNTOUCHED(to);
+}
+
+/* Units and extents without a value in its unit. */
+static void no_units(hidr_reader r) {
+    struct outputs to;
+    FILL(to);
     ANSWERS(HIDR_EQUAL_LIMITS, hidr_physical(r, 3, 5, &to.fraction));
     ANSWERS(HIDR_EQUAL_LIMITS, hidr_decimal(r, 3, 5, 1, to.text, 8, &to.count));
     ANSWERS(HIDR_INVERTED_LIMITS, hidr_physical(r, 4, 5, &to.fraction));
@@ -262,8 +278,10 @@ static void what_is_told(hidr_reader r) {
           to.detail.unit == 0x14 && to.detail.application == 0 && to.detail.field == 0 && to.detail.kind == HIDR_INPUT);
     ANSWERS(HIDR_OK, hidr_detail_at(r, 1, &to.detail));
     CHECK((to.detail.flags & HIDR_CONSTANT) && to.detail.field == HIDR_NONE && to.detail.bit == 4);
-    ANSWERS(HIDR_OK, hidr_namings(TEXT, sizeof TEXT, 25, HIDR_STRING, to.ranges, 2, &to.count));
+    ANSWERS(HIDR_OK, hidr_strings(r, 0, to.ranges, 2, &to.count));
     CHECK(to.count == 1 && to.ranges[0].first == 7 && to.ranges[0].last == 7);
+    ANSWERS(HIDR_OK, hidr_designators(r, 0, to.ranges, 2, &to.count));
+    CHECK(to.count == 0);
     ANSWERS(HIDR_OK, hidr_reports(r, to.reports, 2, &to.count));
     CHECK(to.count == 2 && to.reports[0].bits == 48 && to.reports[0].bytes == 6 && to.reports[1].kind == HIDR_OUTPUT);
     FILL(to);
@@ -436,6 +454,7 @@ int main(void) {
     null_pointers(reader);
     lengths_and_overlaps(reader);
     what_is_absent(reader);
+    no_units(reader);
     no_values(reader);
     what_is_told(reader);
     what_changes(reader);

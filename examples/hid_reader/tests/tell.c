@@ -112,10 +112,10 @@ static void print_reports(void) {
     print_places("data", 0);
 }
 
-static void print_namings(uint64_t offset, uint8_t naming) {
+static void print_names(size_t item, hidr_status (*names)(hidr_reader, size_t, hidr_range *, size_t, size_t *)) {
     hidr_range ranges[MOST];
     size_t count;
-    ANSWERS(HIDR_OK, hidr_namings(text_end - text_length, text_length, offset, naming, ranges, MOST, &count));
+    ANSWERS(HIDR_OK, names(reader, item, ranges, MOST, &count));
     for (size_t at = 0; at < count; at++)
         printf("%s%" PRIu32 ":%" PRIu32, at > 0 ? "," : "", ranges[at].first, ranges[at].last);
     printf(" ");
@@ -141,8 +141,8 @@ static void print_items(void) {
         printf(" ");
         print_place(told.application);
         printf(" ");
-        print_namings(told.offset, HIDR_STRING);
-        print_namings(told.offset, HIDR_DESIGNATOR);
+        print_names(number, hidr_strings);
+        print_names(number, hidr_designators);
         hidr_status status = hidr_unit_exponents(reader, number, exponents);
         if (status == HIDR_OK)
             printf("%d,%d,%d,%d,%d,%d;", exponents[0], exponents[1], exponents[2], exponents[3], exponents[4], exponents[5]);

@@ -1,4 +1,4 @@
-//! A simulated keyboard on a flash in memory. It runs event by event, and its power can be cut at any point.
+//! A simulated keyboard on a flash in memory. It runs event by event, with a power loss at any point.
 //!
 //! [`run_script`] runs a script and prints the result of each line. [`World`] gives your own program the keyboard, its flash,
 //! its host and its power switch. [`parse_text`] prints the fields of a report descriptor, and [`describe`] prints the

@@ -9,25 +9,25 @@ use core::ops::ControlFlow;
 use wuzhikar::usb::ENDPOINT_0_PACKET;
 use wuzhikar::{NorFlash, Why, Work};
 
-/// What a transfer brought that was not stalled.
+/// What a control transfer brought.
 #[derive(Clone, Copy, Debug, PartialEq, Eq)]
 pub struct Done {
-    /// How many bytes were read, or taken.
+    /// The bytes that were read, or taken.
     pub length: usize,
     /// What the controller has to do.
     pub change: Option<Change>,
 }
 
-/// Why a transfer ended otherwise.
+/// Why a control transfer was not done.
 #[derive(Clone, Copy, Debug, PartialEq, Eq)]
 pub enum NotDone {
     /// It was stalled. A host on a real bus does not see the reason.
     Stall(Why),
     /// The buffer has no room for a packet, or fewer bytes than the SETUP packet says are to be written.
     Buffer,
-    /// A packet was told to wait, and no flash work was left: a host waits until its time is over.
+    /// A packet was answered by NAK, and no command works: a host waits until its time is over.
     Waits,
-    /// What is done at a NAK broke off.
+    /// The caller broke off at a NAK.
     Broken,
 }
 
@@ -61,6 +61,21 @@ impl<F: NorFlash, K: HasKeyboard> Device<'_, F, K> {
     /// # Errors
     ///
     /// `Stall` with the reason, `Buffer` if `data` is too short, `Waits` if a NAK comes and no command works.
+    ///
+    /// ```
+    /// use wuzhikar::{SimFlash, Why};
+    /// use wuzhikar_device::{Device, Done, NotDone, Product};
+    ///
+    /// let mut device = Device::start(SimFlash::blank(2)?, &Product::TEST)?;
+    /// let mut data = [0; 18];
+    /// // GET_DESCRIPTOR of the device descriptor.
+    /// let done = device.control([0x80, 0x06, 0, 1, 0, 0, 18, 0], &mut data);
+    /// assert_eq!(done, Ok(Done { length: 18, change: None }));
+    /// // A vendor's request that no keyboard has.
+    /// let refused = device.control([0xc0, 1, 0, 0, 0, 0, 8, 0], &mut data);
+    /// assert_eq!(refused, Err(NotDone::Stall(Why::UnknownRequest)));
+    /// # Ok::<(), Box<dyn core::error::Error>>(())
+    /// ```
     pub fn control(&mut self, setup: [u8; 8], data: &mut [u8]) -> Result<Done, NotDone> {
         self.control_with(setup, data, |device| match device.work() {
             Work::Idle => ControlFlow::Break(NotDone::Waits),
@@ -99,7 +114,7 @@ impl<F: NorFlash, K: HasKeyboard> Device<'_, F, K> {
     }
 }
 
-/// A device whose packets are offered again where they are told to wait.
+/// A device whose packets are offered again at each NAK.
 struct Bus<'b, 'a, F: NorFlash, K: HasKeyboard, N> {
     device: &'b mut Device<'a, F, K>,
     at_nak: N,

@@ -8,49 +8,50 @@ use wuzhikar::NorFlash;
 use wuzhikar::usb::FEATURE_REPORT_LEN;
 
 impl<E, B> UsbDevice<'_, E, B> {
-    /// The device behind the layer, to be looked at.
+    /// Returns the device behind the layer, to look at it.
     pub fn behind(&self) -> &E {
         &self.device.behind
     }
 
-    /// The device behind the layer, for what is nothing to the bus.
+    /// Lends the device behind the layer, for what is nothing to the bus.
     ///
     /// **Needs** that none of its calls of [`Endpoints`] is made. Nothing checks it.
     pub fn behind_mut(&mut self) -> &mut E {
         &mut self.device.behind
     }
 
-    /// The power goes: the device behind the layer.
+    /// Drops all else, and returns the device behind the layer.
     pub fn into_behind(self) -> E {
         self.device.behind
     }
 }
 
 impl<E: Endpoints, B: Buffers> UsbDevice<'_, E, B> {
-    /// What endpoint 1 is.
+    /// Returns whether endpoint 1 is off, ready or halted (USB 2.0 section 9.4.5).
     pub fn endpoint_1(&self) -> Endpoint1 {
         self.device.layer.endpoint_1()
     }
 
-    /// Whether the host has enabled remote wakeup (USB 2.0 section 9.4.5).
+    /// Returns whether the host has enabled remote wakeup (USB 2.0 section 9.4.5).
     pub fn may_wake(&self) -> bool {
         self.device.layer.may_wake()
     }
 }
 
 impl<E> Guarded<E> {
-    /// What is guarded, to be looked at.
+    /// Returns the device that is guarded, to look at it.
     pub fn behind(&self) -> &E {
         &self.behind
     }
 }
 
 impl<F: NorFlash, K: HasKeyboard, B: Buffers> UsbDevice<'_, Keys<F, K>, B> {
-    /// A command of the firmware's own, as at a chord of keys: feature report 3, whose operation 3 resets all keys
-    /// (`[3, 3, 0, 0, 0, 0]`). Behind `Ack` it is made by `work`, and is over when that answers other than `Working`.
+    /// Gives the keyboard a command of the firmware's own, as at a chord of keys. It is feature report 3, whose operation 3
+    /// resets all keys (`[3, 3, 0, 0, 0, 0]`). After `Ack` it is made by `work`, and is over when that answers other than
+    /// `Working`.
     ///
     /// It never falls into a transfer of the host: `Nak` while one is under way or another command works, and then nothing
-    /// has come of it. `Stall` where it is refused, as operation 0 is, which would change what the host has selected.
+    /// has come of it. `Stall` if it is refused, as operation 0 is, which would change what the host has selected.
     pub fn command(&mut self, report: [u8; FEATURE_REPORT_LEN]) -> EpAnswer {
         if self.control.is_over() { self.behind_mut().command(report) } else { EpAnswer::Nak }
     }

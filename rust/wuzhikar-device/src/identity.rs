@@ -90,16 +90,18 @@ impl Default for Power {
 /// units as many characters are sent as these hold. An empty name is none: its index is 0.
 ///
 /// ```
-/// use wuzhikar_device::{Identity, PacketSize, Power, Product, utf16};
+/// use wuzhikar_device::{Identity, Interval, PacketSize, Power, Product, utf16};
 ///
 /// static PRODUCT: Product = Product::of(Identity {
 ///     manufacturer: utf16!("Example"),
 ///     product: utf16!("Keyboard"),
 ///     packet_size: PacketSize::Bytes16,
+///     interval: Interval::milliseconds(2).unwrap(),
 ///     power: Power::milliamperes(100).unwrap(),
 ///     ..Identity::TEST
 /// });
-/// assert_eq!(PRODUCT.descriptors().configuration[31], 16);
+/// let configuration = PRODUCT.descriptors().configuration;
+/// assert_eq!((configuration[31], configuration[33]), (16, 2));
 /// ```
 #[derive(Clone, Copy, Debug, PartialEq, Eq)]
 pub struct Identity<'a> {

@@ -22,10 +22,9 @@
 //! use wuzhikar::{Scan, SimFlash};
 //! use wuzhikar_device::{Change, Device, Endpoint1, PollAnswer, Product};
 //!
-//! let flash = SimFlash::blank(2).unwrap();
-//! let mut device = Device::start(flash, &Product::TEST).unwrap();
+//! let mut device = Device::start(SimFlash::blank(2)?, &Product::TEST)?;
 //! // SET_CONFIGURATION 1, as a host asks it.
-//! let done = device.control([0x00, 0x09, 1, 0, 0, 0, 0, 0], &mut []).unwrap();
+//! let done = device.control([0x00, 0x09, 1, 0, 0, 0, 0, 0], &mut [])?;
 //! assert_eq!(done.change, Some(Change::Endpoint(Endpoint1::Ready)));
 //! // Key 0 is closed for five milliseconds.
 //! for _ in 0..5 {
@@ -34,6 +33,53 @@
 //! // The report of 23 bytes comes in a packet of 16 and one of 7.
 //! let PollAnswer::Data(packet) = device.poll() else { panic!("a packet") };
 //! assert_eq!((packet.len(), &packet[..3]), (16, &[1, 0, 1][..]));
+//! # Ok::<(), Box<dyn core::error::Error>>(())
+//! ```
+//!
+//! # Another device behind the layer
+//!
+//! The layer serves whatever implements [`Endpoints`], with the [`Descriptors`] of its maker:
+//!
+//! ```
+//! use wuzhikar::usb::{CONFIGURATION_DESCRIPTOR, DEVICE_DESCRIPTOR, HID_DESCRIPTOR};
+//! use wuzhikar_device::{Descriptors, DeviceLayer, Endpoints, EpAnswer, Report, utf16};
+//!
+//! /// A device that takes no request and has no report.
+//! struct Silent;
+//!
+//! impl Endpoints for Silent {
+//!     fn setup(&mut self, _packet: [u8; 8]) {}
+//!
+//!     fn out(&mut self, _packet: &[u8]) -> EpAnswer {
+//!         EpAnswer::Stall
+//!     }
+//!
+//!     fn in_packet(&mut self) -> EpAnswer {
+//!         EpAnswer::Stall
+//!     }
+//!
+//!     fn poll(&mut self) -> Option<Report> {
+//!         None
+//!     }
+//!
+//!     fn bus_reset(&mut self) {}
+//! }
+//!
+//! let mut layer = DeviceLayer::new(Descriptors {
+//!     device: &DEVICE_DESCRIPTOR,
+//!     configuration: &CONFIGURATION_DESCRIPTOR,
+//!     hid: &HID_DESCRIPTOR,
+//!     manufacturer: utf16!("Example"),
+//!     product: &[],
+//!     serial_number: &[],
+//! });
+//! // GET_DESCRIPTOR of string 1: its length, its type, and three characters in the first packet.
+//! layer.setup([0x80, 0x06, 1, 3, 0x09, 0x04, 255, 0], &mut Silent);
+//! let (EpAnswer::Packet(packet), None) = layer.in_packet(&mut Silent) else { panic!("a packet") };
+//! assert_eq!(packet[..], [16, 3, b'E', 0, b'x', 0, b'a', 0]);
+//! // GET_REPORT is of the device behind.
+//! layer.setup([0xa1, 0x01, 1, 1, 0, 0, 23, 0], &mut Silent);
+//! assert_eq!(layer.in_packet(&mut Silent), (EpAnswer::Stall, None));
 //! ```
 #![cfg_attr(not(test), no_std)]
 #![forbid(unsafe_code)]

@@ -2,18 +2,16 @@
 //! exported from a proved source, but for the names of units and of types of collections: by hand, tested, not proved.
 
 mod facts;
-mod questions;
 
 pub use crate::parts::field_details::{
     Applications, Around, Collection, Detail, Details, Dimension, Placed, PlacedFields, ReportFacts, Reports, ReportsOf,
 };
 pub use facts::NoUnit;
-pub use questions::{Naming, namings};
 
 use crate::ReaderError;
 use crate::parts::field_details;
 
-/// Returns the attributes of all data items, the collections and the reports of a descriptor's text of at most 4,096 bytes.
+/// Reads the attributes of all data items, the collections and the reports from a descriptor's text of at most 4,096 bytes.
 ///
 /// It needs no [`Reader`](crate::Reader), which has them too.
 ///

@@ -1,4 +1,4 @@
-//! A reader of HID report descriptors for drivers (HID 1.11). It tells what each field of a report means, reads the values of
+//! A reader of HID report descriptors for drivers (HID 1.11). It says what each field of a report means, reads the values of
 //! reports, and makes reports from values. It builds on `wuzhikar-reader`.
 //!
 //! A [`Reader`] is made once of a report descriptor. [`Reader::read`] gives the values of a report of any kind,
@@ -36,9 +36,36 @@
 //! [`usages::generic_desktop::X`], and button 3 `0x0009_0003`. An ID of 0 stands for no control: an Array whose places are free
 //! mostly names such a usage.
 //!
-//! On Linux the bytes of a device are the file `/sys/class/hidraw/hidraw0/device/report_descriptor`, and each read of
-//! `/dev/hidraw0` gives a report as [`Reader::read`] takes it, with its ID where IDs are used: which report it is need not be
-//! known before.
+//! On Linux the bytes of a device are the file `/sys/class/hidraw/hidraw0/device/report_descriptor`. Each read of
+//! `/dev/hidraw0` gives a report as [`Reader::read`] takes it, with its ID if IDs are used.
+//!
+//! # What a device is
+//!
+//! The Application collections say it, and each has its reports. [`details()`] needs no [`Reader`].
+//!
+//! ```
+//! use wuzhikar_hid::{Kind, UsageName, details};
+//!
+//! // A keyboard by report 1, and two keys for the volume by report 2.
+//! # let text = [
+//! #     0x05, 0x01, 0x09, 0x06, 0xa1, 0x01, 0x85, 1, 0x05, 0x07, 0x19, 0xe0, 0x29, 0xe7, 0x25, 0x01, 0x75, 0x01, 0x95, 0x08, 0x81,
+//! #     0x02, 0xc0, 0x05, 0x0c, 0x09, 0x01, 0xa1, 0x01, 0x85, 2, 0x09, 0xe9, 0x09, 0xea, 0x95, 0x02, 0x81, 0x02, 0x95, 0x06, 0x81,
+//! #     0x03, 0xc0,
+//! # ];
+//! let details = details(&text)?;
+//! let mut told = Vec::new();
+//! for (place, application) in details.applications() {
+//!     let name = application.usage.map(|usage| UsageName(usage).to_string());
+//!     told.push((name.unwrap_or_default(), details.reports_of(place).collect::<Vec<_>>()));
+//! }
+//! assert_eq!(told[0], ("Keyboard".to_string(), vec![(Kind::Input, 1)]));
+//! assert_eq!(told[1], ("Consumer Control".to_string(), vec![(Kind::Input, 2)]));
+//! assert_eq!(details.collections[0].kind_name(), Some("Application"));
+//! // The bytes of each report without its ID, and the padding.
+//! assert!(details.reports().map(|report| (report.id, report.bytes())).eq([(1, 1), (2, 1)]));
+//! assert!(details.padding().map(|placed| (placed.place, placed.detail.count)).eq([(2, 6)]));
+//! # Ok::<(), Box<dyn std::error::Error>>(())
+//! ```
 //!
 //! # A mouse
 //!
@@ -179,13 +206,31 @@
 //! [`ReadingError`] says why. A driver drops the report, keeps its last state and reads the next one. Without Report IDs a
 //! report of another kind can't be told by its first byte.
 //!
-//! **Exported from a proved source: what a descriptor declares, and reports that are read and written.** The fields
-//! of [`Details`], its collections, its calls, the bits, extents and units of a [`Detail`], what [`namings`] gives,
-//! the value in its unit, and all that [`Reader::read`] and [`Reader::write`] do are in the hidden module `parts`,
-//! the text of crates that are proved in Rattle (Rust with contracts), as are the fields and their usages of
-//! `wuzhikar-reader`. **All else, names included, is written by hand: tested, not proved.** Tests compare it with a
-//! program in another language over some ten thousand descriptors. Any bytes may come: nothing panics on them. Where
-//! a call says nothing of memory, it takes memory as std does.
+//! ```
+//! use wuzhikar_hid::{Kind, Reader, ReadingError};
+//!
+//! // Two axes of a byte each.
+//! let text = [0x05, 0x01, 0x09, 0x30, 0x09, 0x31, 0x25, 0x7f, 0x75, 8, 0x95, 2, 0x81, 0x02];
+//! let reader = Reader::new(&text)?;
+//! assert_eq!(reader.read(Kind::Input, &[1]).err(), Some(ReadingError::Short));
+//! assert_eq!(reader.read(Kind::Output, &[1, 2]).err(), Some(ReadingError::UnknownReport));
+//! // A byte too many, as some devices send it.
+//! assert_eq!(reader.read(Kind::Input, &[1, 2, 0])?.rest(), [0]);
+//! # Ok::<(), Box<dyn std::error::Error>>(())
+//! ```
+//!
+//! # What is proved
+//!
+//! The hidden module `parts` is the text of crates that are proved in Rattle (Rust with contracts), as are the fields and
+//! their usages of `wuzhikar-reader`:
+//!
+//! - the fields of [`Details`], its collections and its calls; the bits, extents and units of a [`Detail`]
+//! - the value in its unit
+//! - all that [`Reader::read`] and [`Reader::write`] do
+//!
+//! **All else, names included, is written by hand: tested, not proved.** Tests compare it with a program in another
+//! language over some ten thousand descriptors. Any bytes may come: nothing panics on them. A call that says nothing of
+//! memory takes memory as std does.
 #![cfg_attr(not(test), no_std)]
 #![forbid(unsafe_code)]
 #![warn(missing_docs, missing_debug_implementations)]
@@ -203,8 +248,8 @@ pub mod usages;
 mod values;
 
 pub use crate::details::{
-    Applications, Around, Collection, Detail, Details, Dimension, Naming, NoUnit, Placed, PlacedFields, ReportFacts, Reports,
-    ReportsOf, details, namings,
+    Applications, Around, Collection, Detail, Details, Dimension, NoUnit, Placed, PlacedFields, ReportFacts, Reports,
+    ReportsOf, details,
 };
 pub use crate::names::{UsageName, page_name, usages_named};
 pub use crate::values::{

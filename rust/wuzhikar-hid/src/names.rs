@@ -31,7 +31,7 @@ fn name_in(mut lines: &'static str, number: u16) -> Option<&'static str> {
     None
 }
 
-/// Returns the name of a usage page, as "Generic Desktop"; `None` if none is known here.
+/// Returns the name of a usage page (HUT section 3), as "Generic Desktop"; `None` if none is known here.
 pub fn page_name(number: u16) -> Option<&'static str> {
     match page(number) {
         Some((name, _)) => Some(name),
@@ -39,8 +39,15 @@ pub fn page_name(number: u16) -> Option<&'static str> {
     }
 }
 
-/// Returns the usages that have a name, rising: as [`UsageName`] writes it, or as it stands on a key where the table has that,
-/// too. ASCII letters are taken in either case, and a name may be that of usages of several pages.
+/// Returns the usages that have a name, rising: as [`UsageName`] writes it, or as it stands on a key. ASCII letters are taken
+/// in either case, and a name may be that of usages of several pages.
+///
+/// ```
+/// use wuzhikar_hid::{page_name, usages, usages_named};
+///
+/// assert!(usages_named("volume increment").eq([usages::consumer::VOLUME_INCREMENT]));
+/// assert_eq!(page_name(0x0c), Some("Consumer"));
+/// ```
 pub fn usages_named(name: &str) -> impl Iterator<Item = u32> + '_ {
     PAGES.iter().flat_map(move |(number, begin, end)| {
         let lines = TABLE.get(*begin..*end).unwrap_or("").lines().skip(1);
@@ -62,9 +69,17 @@ fn numbered(line: &str, name: &str) -> Option<u16> {
 
 /// The name of a usage, whose page is in its high half.
 ///
-/// It is written as the name of the usage tables, as "Wheel" or "Button 3"; where none is known here, as the name of the
-/// page, or its number, and the number of the usage, both in hex, as "Generic Desktop 9Fh" or "FF00h 01h". The constants of
-/// [`usages`](crate::usages) have the usages by these names.
+/// It is written as the usage tables have it, as "Wheel". A usage without a known name is written as its page and its number.
+/// The constants of [`usages`](crate::usages) have the usages by these names.
+///
+/// ```
+/// use wuzhikar_hid::{UsageName, usages};
+///
+/// assert_eq!(UsageName(usages::generic_desktop::WHEEL).to_string(), "Wheel");
+/// assert_eq!(UsageName(0x0009_0003).to_string(), "Button 3");
+/// assert_eq!(UsageName(0x0001_009f).to_string(), "Generic Desktop 9Fh");
+/// assert_eq!(UsageName(0xff00_0001).to_string(), "FF00h 01h");
+/// ```
 #[derive(Clone, Copy, Debug, PartialEq, Eq)]
 pub struct UsageName(pub u32);
 

@@ -22,7 +22,7 @@ use dumps::Dump;
 pub use recordings::{Line, line_of};
 pub use sentences::shown;
 
-/// The most bytes that a text may say.
+/// The most bytes that a text may say: 2^20.
 pub const MOST: usize = 1 << 20;
 
 /// A form of texts.
@@ -51,6 +51,15 @@ pub enum Form {
 }
 
 /// Why a text does not say bytes, and where: at an offset in bytes.
+///
+/// ```
+/// use wuzhikar_hid::texts::{Form, Why};
+///
+/// let text = b"05 01\n09 0x";
+/// let fault = Form::Hex.read(text).unwrap_err();
+/// assert_eq!((fault.at, fault.why), (10, Why::NoDigit));
+/// assert_eq!(fault.sentence(text), "line 2, column 5: x is no hex digit");
+/// ```
 #[derive(Clone, Copy, Debug, PartialEq, Eq)]
 pub struct Fault {
     /// The place in the text.
@@ -117,7 +126,7 @@ impl Form {
         Form::Bytes,
     ];
 
-    /// Its name.
+    /// Returns its name.
     pub const fn name(self) -> &'static str {
         match self {
             Form::Hex => "hex",
@@ -133,17 +142,21 @@ impl Form {
         }
     }
 
-    /// The form of a name.
+    /// Returns the form of a name; `None` if it is of none.
     pub fn named(name: &str) -> Option<Form> {
         Form::ALL.into_iter().find(|form| form.name() == name)
     }
 
-    /// Whether its texts hold reports beside the descriptor.
+    /// Returns whether its texts hold reports beside the descriptor.
     pub fn is_recording(self) -> bool {
         matches!(self, Form::UsbhidDump | Form::HidRecorder)
     }
 
-    /// The bytes of the descriptor that a text says in this form, or its first fault.
+    /// Reads the bytes of the descriptor that a text says in this form.
+    ///
+    /// # Errors
+    ///
+    /// The first fault of the text.
     pub fn read(self, text: &[u8]) -> Result<Vec<u8>, Fault> {
         match self {
             Form::Hex => digits(text),
@@ -160,10 +173,14 @@ impl Form {
     }
 }
 
-/// The form of a text and the bytes that it says, or the form that it looks most like and its fault there.
+/// Finds the form of a text, and reads the bytes that it says.
 ///
-/// A mark of a tool decides before all else. Then a text is hex digits where it is nothing else than pairs of them, an array where
-/// it reads as one, and last loose numbers. A text with control characters, or which is no UTF-8, is the bytes themselves.
+/// A mark of a tool decides before all else. Then a text is hex digits if it is nothing else than pairs of them, an array if it
+/// reads as one, and last loose numbers. A text with control characters, or which is no UTF-8, is the bytes themselves.
+///
+/// # Errors
+///
+/// The form that the text looks most like, and its first fault there.
 pub fn taken(text: &[u8]) -> Result<(Form, Vec<u8>), (Form, Fault)> {
     let in_form = |form: Form| form.read(text).map(|bytes| (form, bytes)).map_err(|fault| (form, fault));
     let has_controls = text.iter().any(|byte| byte.is_ascii_control() && !is_blank(*byte));
@@ -212,7 +229,11 @@ fn marked(text: &[u8]) -> Option<Form> {
     }
 }
 
-/// The bytes of pairs of hex digits; spaces, tabs, CR and LF are dropped.
+/// Reads pairs of hex digits; spaces, tabs, CR and LF are dropped.
+///
+/// # Errors
+///
+/// `NoDigit` at the first other character, `OddDigits` if a digit is left over.
 pub fn digits(text: &[u8]) -> Result<Vec<u8>, Fault> {
     let (mut bytes, mut high, mut count) = (Vec::with_capacity(text.len() / 2), None, 0);
     for (at, byte) in text.iter().enumerate().filter(|(_, byte)| !is_blank(**byte)) {

@@ -11,7 +11,7 @@ pub trait LogCalls {
     fn begin_turn(&mut self) -> Result<(), TurnRefusal>;
     /// **Needs** a log that wants a copy.
     fn offer_copy(&mut self, word: u32);
-    /// **Needs** a log that wants a copy or its seal.
+    /// **Needs** a log that wants a copy or its commit header.
     fn seal(&mut self);
 }
 

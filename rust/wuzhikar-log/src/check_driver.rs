@@ -18,6 +18,23 @@ pub struct Place {
 }
 
 /// What a flash or its driver does wrong.
+///
+/// ```
+/// # use wuzhikar_log::{FlashFault, NorFlash};
+/// use wuzhikar_log::{DriverFault, Place, check_driver};
+/// # struct Unerased;
+/// # impl NorFlash for Unerased {
+/// #     fn pages(&self) -> usize { 2 }
+/// #     fn read_slot(&self, _page: usize, _slot: usize) -> [u8; 8] { [0; 8] }
+/// #     fn program_slot(&mut self, _page: usize, _slot: usize, _bytes: [u8; 8]) -> Result<(), FlashFault> { Ok(()) }
+/// #     fn erase_page(&mut self, _page: usize) -> Result<(), FlashFault> { Ok(()) }
+/// # }
+///
+/// // A flash whose erases do nothing.
+/// let fault = check_driver(&mut Unerased).unwrap_err();
+/// assert_eq!(fault, DriverFault::NotErased(Place { page: 0, slot: 0 }));
+/// assert_eq!(fault.to_string(), "page 0, slot 0: not blank after the erase of its page");
+/// ```
 #[derive(Clone, Copy, Debug, PartialEq, Eq)]
 pub enum DriverFault {
     /// There are not 2 to 8 pages. Nothing was read or written.
@@ -47,15 +64,21 @@ pub enum DriverFault {
     Unsteady(Place),
 }
 
-/// Checks over spare pages that a flash does what [`NorFlash`] says of each call: the number of pages, erases, programs,
-/// second programs, the order of bytes, and that no operation touches another slot or page.
+/// Checks over spare pages that a flash does what [`NorFlash`] says of each call.
+///
+/// It tries the number of pages, erases, programs, second programs, the order of bytes, and that no operation touches another
+/// slot or page.
 ///
 /// **All that the pages hold is lost.** They are blank where the answer is `Ok`. Each page is erased three times, page 0 a
 /// fourth time, and each slot is programmed twice. A second program of a slot may report a fault, as many chips do, if it
 /// then leaves the slot as the trait allows.
 ///
-/// The first fault that is found is the answer. Not seen are what a loss of power leaves, what changes by itself, what
-/// error correction makes of a torn write, and a driver whose reads come from a buffer and not from the cells.
+/// It does not see what a power loss leaves, what changes by itself, or what error correction makes of a torn write. Nor does
+/// it see reads that come from a buffer and not from the cells.
+///
+/// # Errors
+///
+/// The first fault that is found.
 ///
 /// ```
 /// # fn main() -> Result<(), Box<dyn core::error::Error>> {

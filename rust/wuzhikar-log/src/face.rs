@@ -96,8 +96,9 @@ impl core::fmt::Display for LogRefusal {
 
 impl core::error::Error for LogRefusal {}
 
-/// A log and its flash in one: no call of it has a condition on its caller, but that [`remount`](FlashLog::remount) leaves
-/// the number of pages as it is.
+/// A log and its flash in one.
+///
+/// No call has a condition on its caller, but that [`remount`](FlashLog::remount) leaves the number of pages as it is.
 ///
 /// ```
 /// # fn main() -> Result<(), Box<dyn core::error::Error>> {
@@ -106,7 +107,7 @@ impl core::error::Error for LogRefusal {}
 /// use wuzhikar_log::{FlashLog, LogRefusal, SimFlash, Step, WriteError};
 ///
 /// let mut log = FlashLog::mount(SimFlash::blank(2)?)?;
-/// // A blank flash has no page yet: a turn makes one, here with no words to copy.
+/// // A blank flash has no active page: a compaction makes one, here with no words to copy.
 /// assert_eq!(log.push(5), Err(WriteError::Refused(LogRefusal::NoRoom)));
 /// log.rewrite([])?;
 /// log.push(5)?;
@@ -236,6 +237,14 @@ impl crate::SimFlash {
     /// # Errors
     ///
     /// `PageCount` if `pages` is not 2 to 8, `Memory` if memory was refused.
+    ///
+    /// ```
+    /// use wuzhikar_log::{FlashError, NorFlash, SimFlash};
+    ///
+    /// assert_eq!(SimFlash::blank(8)?.pages(), 8);
+    /// assert_eq!(SimFlash::blank(9).err(), Some(FlashError::PageCount));
+    /// # Ok::<(), FlashError>(())
+    /// ```
     pub fn blank(pages: usize) -> Result<crate::SimFlash, crate::FlashError> {
         crate::SimFlash::new((), pages)
     }

@@ -3,7 +3,7 @@
 //! [`FlashLog`] is the log with its flash; [`Log`] is the log alone, which borrows its flash at each call. The trait
 //! [`NorFlash`] is the flash: 2 to 8 pages of 512 slots of 8 bytes. A slot keeps a word beside its complement. When a page
 //! is full, the words that are still wanted move to the next page, whose header is written last. After a power loss inside
-//! any flash operation a mount finds each word that was confirmed. No allocator is used.
+//! any flash operation a mount finds each word that was stored. No allocator is used.
 //!
 //! [`FlashLog::push`], [`FlashLog::rewrite`] and [`FlashLog::format`] return when all is done. The other calls leave each
 //! flash operation to [`FlashLog::step`].
@@ -11,6 +11,40 @@
 //! [`SlotFlash`] turns a driver into such a flash. The driver has the calls of `embedded-storage` ([`FlashDriver`]), and
 //! write and erase units of any size. For a chip with error correction take [`PairedFlash`] on a [`UnitFlash`], or on an
 //! [`EccFlash`] of your own. [`check_driver`], run once on the chip over spare pages, names what the flash does wrong.
+//!
+//! A flash of your own, here two pages in RAM, implements [`NorFlash`]:
+//!
+//! ```
+//! use wuzhikar_log::{FlashFault, FlashLog, NorFlash, PAGE_SLOTS, SLOT_BYTES};
+//!
+//! struct Ram([[[u8; SLOT_BYTES]; PAGE_SLOTS]; 2]);
+//!
+//! impl NorFlash for Ram {
+//!     fn pages(&self) -> usize {
+//!         2
+//!     }
+//!
+//!     fn read_slot(&self, page: usize, slot: usize) -> [u8; SLOT_BYTES] {
+//!         self.0[page][slot]
+//!     }
+//!
+//!     fn program_slot(&mut self, page: usize, slot: usize, bytes: [u8; SLOT_BYTES]) -> Result<(), FlashFault> {
+//!         self.0[page][slot].iter_mut().zip(bytes).for_each(|(cell, byte)| *cell &= byte);
+//!         Ok(())
+//!     }
+//!
+//!     fn erase_page(&mut self, page: usize) -> Result<(), FlashFault> {
+//!         self.0[page] = [[0xFF; SLOT_BYTES]; PAGE_SLOTS];
+//!         Ok(())
+//!     }
+//! }
+//!
+//! let mut log = FlashLog::mount(Ram([[[0xFF; SLOT_BYTES]; PAGE_SLOTS]; 2]))?;
+//! log.rewrite([5, 6])?;
+//! log.push(7)?;
+//! assert!(log.words().eq([5, 6, 7]));
+//! # Ok::<(), Box<dyn core::error::Error>>(())
+//! ```
 //!
 //! **Exported from a proved source.** The hidden module `parts` holds the code of crates that are proved in Rattle
 //! (Rust with contracts), without what only the prover reads. The proofs are about that source, and a flash that does

@@ -6,6 +6,20 @@ use crate::parts::flash_model::NorFlash;
 ///
 /// A compaction copies from one page to the next: with one page it would erase what it is to copy. The format of a
 /// page's header has room for 8.
+///
+/// ```
+/// # use wuzhikar_log::{FlashFault, NorFlash};
+/// use wuzhikar_log::{FlashLog, PageCount};
+/// # struct OnePage;
+/// # impl NorFlash for OnePage {
+/// #     fn pages(&self) -> usize { 1 }
+/// #     fn read_slot(&self, _page: usize, _slot: usize) -> [u8; 8] { [0xff; 8] }
+/// #     fn program_slot(&mut self, _page: usize, _slot: usize, _bytes: [u8; 8]) -> Result<(), FlashFault> { Err(FlashFault) }
+/// #     fn erase_page(&mut self, _page: usize) -> Result<(), FlashFault> { Err(FlashFault) }
+/// # }
+///
+/// assert_eq!(FlashLog::mount(OnePage).err(), Some(PageCount { pages: 1 }));
+/// ```
 #[derive(Clone, Copy, Debug, PartialEq, Eq)]
 pub struct PageCount {
     /// How many pages the flash says that it has.

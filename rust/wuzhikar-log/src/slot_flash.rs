@@ -15,12 +15,11 @@ const UNREAD: [u8; SLOT_BYTES] = [255, 255, 255, 127, 255, 255, 255, 255];
 /// A flash without error correction as [`NorFlash`], on a driver with whatever units.
 ///
 /// Each slot of 8 bytes stands in write units of its own, filled up with FFh, and each page of 512 slots in whole erase
-/// units, so that no write touches another slot and no erase another page. Where the write unit is one of 1, 2, 4 or 8
-/// bytes and the erase unit divides 4,096, that is as tight as it can be.
+/// units. So no write touches another slot, and no erase another page. With write units of 1, 2, 4 or 8 bytes, and erase
+/// units that divide 4,096, no byte is lost by that.
 ///
-/// A driver's `read` has to give what the cells hold, the same each time. Where one fails, the slot reads as neither free
-/// nor a word, and from then on nothing is written ([`SlotFlash::is_unreadable`]), so that a word which could not be read
-/// stays where it is.
+/// A driver's `read` has to give what the cells hold, the same each time. After one that failed the slot reads as neither
+/// free nor a word, and nothing is written any more ([`SlotFlash::is_unreadable`]): a word that was not read stays.
 ///
 /// ```
 /// # fn main() -> Result<(), Box<dyn core::error::Error>> {
@@ -76,7 +75,11 @@ impl<D: FlashDriver> SlotFlash<D> {
         Ok(SlotFlash { units: Units::new(driver, start, pages)?, unreadable: Cell::new(false) })
     }
 
-    /// Returns the bytes of flash that each page takes, or why this flash can hold none.
+    /// Returns the bytes of flash that each page takes.
+    ///
+    /// # Errors
+    ///
+    /// `WriteUnit`, `ReadUnit` or `EraseUnit` if this flash can hold no page.
     pub fn page_bytes() -> Result<u32, GeometryError> {
         Units::<D, { PAGE_SLOTS as u32 }>::page_bytes()
     }

@@ -15,10 +15,10 @@ use crate::units::{GeometryError, Units};
 ///
 /// Beside what [`FlashDriver`] says, of the driver's `read` is asked that it
 ///
-/// - answers an error where the chip tells of an error that it could not correct, and lets the program go on where the
-///   chip tells it by an interrupt;
-/// - answers an error where eight bytes read as FFh and the chip tells that it corrected a bit in their unit: FFh is
-///   answered only where each cell of the unit is set;
+/// - answers an error where the chip reports one that it could not correct, and lets the program go on where the chip
+///   reports it by an interrupt;
+/// - answers an error where eight bytes read as FFh and the chip reports a bit that it corrected in their unit: FFh says
+///   that each cell is set;
 /// - answers the same until the next write or erase.
 ///
 /// The chip has to correct one bit of these eight bytes at most: error correction over fewer than 8 bytes does not serve.
@@ -77,7 +77,11 @@ impl<D: FlashDriver> UnitFlash<D> {
         Ok(UnitFlash { units: Units::new(driver, start, pages)? })
     }
 
-    /// Returns the bytes of flash that each page takes, or why this flash can hold none.
+    /// Returns the bytes of flash that each page takes.
+    ///
+    /// # Errors
+    ///
+    /// `WriteUnit`, `ReadUnit` or `EraseUnit` if this flash can hold no page.
     pub fn page_bytes() -> Result<u32, GeometryError> {
         if D::WRITE_SIZE < UNIT_BYTES {
             return Err(GeometryError::WriteUnit);

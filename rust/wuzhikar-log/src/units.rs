@@ -11,6 +11,27 @@ const UNIT_BYTES: usize = 8;
 const LONGEST_WRITE: usize = 512;
 
 /// Why a flash can't hold the pages of a log.
+///
+/// ```
+/// use wuzhikar_log::{GeometryError, SlotFlash};
+/// # use core::convert::Infallible;
+/// # struct Driver;
+/// # impl wuzhikar_log::FlashDriver for Driver {
+/// #     type Error = Infallible;
+/// #     const READ_SIZE: usize = 1;
+/// #     const WRITE_SIZE: usize = 4;
+/// #     const ERASE_SIZE: usize = 4096;
+/// #     fn capacity(&self) -> usize { 16384 }
+/// #     fn read(&mut self, _offset: u32, _bytes: &mut [u8]) -> Result<(), Infallible> { Ok(()) }
+/// #     fn write(&mut self, _offset: u32, _bytes: &[u8]) -> Result<(), Infallible> { Ok(()) }
+/// #     fn erase(&mut self, _from: u32, _to: u32) -> Result<(), Infallible> { Ok(()) }
+/// # }
+///
+/// // A driver of 16,384 bytes in erase units of 4,096.
+/// assert_eq!(SlotFlash::<Driver>::page_bytes(), Ok(4096));
+/// assert_eq!(SlotFlash::new(Driver, 100, 2).err(), Some(GeometryError::Start));
+/// assert_eq!(SlotFlash::new(Driver, 12288, 2).err(), Some(GeometryError::Capacity { end: 20480 }));
+/// ```
 #[derive(Clone, Copy, Debug, PartialEq, Eq)]
 pub enum GeometryError {
     /// There are 2 to 8 pages.

@@ -35,8 +35,8 @@ impl<F: NorFlash> FlashLog<F> {
         self.finish()
     }
 
-    /// Compacts to the next page with these words alone, and returns when they are stored: at most one erase, a program
-    /// for each word, and one for the header, which puts all of them in force at once.
+    /// Compacts to the next page with these words alone, and returns when they are stored. That is at most one erase, a
+    /// program for each word, and one for the commit header, which puts all of them in force at once.
     ///
     /// # Errors
     ///
@@ -100,6 +100,24 @@ impl<F: NorFlash> FlashLog<F> {
     /// # Errors
     ///
     /// `FlashFault` if a page could not be erased. Those before it are.
+    ///
+    /// ```
+    /// # fn main() -> Result<(), Box<dyn core::error::Error>> {
+    /// # #[cfg(feature = "sim")]
+    /// # {
+    /// use wuzhikar_log::{Dropped, FlashLog, NorFlash, SimFlash, Unsound};
+    ///
+    /// let mut flash = SimFlash::blank(2)?;
+    /// // Something else wrote into slot 0 of page 1.
+    /// flash.program_slot(1, 0, [0; 8])?;
+    /// let mut log = FlashLog::mount(flash)?;
+    /// assert_eq!(log.usable(), Err(Unsound { page: 1 }));
+    /// assert_eq!(log.format()?, Dropped { words: 0, unsound: Some(1) });
+    /// assert_eq!(log.usable(), Ok(()));
+    /// # }
+    /// # Ok(())
+    /// # }
+    /// ```
     pub fn format(&mut self) -> Result<Dropped, FlashFault> {
         let dropped = Dropped { words: self.words().count(), unsound: self.usable().err().map(|unsound| unsound.page) };
         let active = self.log().active().map(|(page, _)| page);

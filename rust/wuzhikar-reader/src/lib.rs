@@ -20,7 +20,41 @@
 //! ```
 //!
 //! No input is trusted: it may be any bytes, and the time is linear in their number. A call that allocates returns an
-//! error when the allocation fails.
+//! error when the allocation fails ([`AllocError`], or `Memory` among its errors).
+//!
+//! # The fields of a report
+//!
+//! ```
+//! use wuzhikar_reader::{Field, Kind, parse};
+//!
+//! // Three buttons of a bit each, five bits of padding, and the axis X of a byte.
+//! let text = [
+//!     0x05, 0x09, 0x19, 1, 0x29, 3, 0x25, 1, 0x75, 1, 0x95, 3, 0x81, 0x02, 0x75, 5, 0x95, 1, 0x81, 0x03, 0x05, 0x01, 0x09, 0x30,
+//!     0x15, 0x81, 0x25, 0x7f, 0x75, 8, 0x81, 0x06,
+//! ];
+//! let descriptor = parse(&text)?;
+//! let mut told = Vec::new();
+//! for one in descriptor.report(Kind::Input, 0) {
+//!     let Field { bit, size, count, min, max, .. } = one.field;
+//!     told.push(((bit, size, count), (min, max), one.usages().collect::<Vec<u32>>()));
+//! }
+//! let buttons = ((0, 1, 3), (0, 1), vec![0x0009_0001, 0x0009_0002, 0x0009_0003]);
+//! let axis = ((8, 8, 1), (-127, 127), vec![0x0001_0030]);
+//! assert_eq!(told, [buttons, axis]);
+//! # Ok::<(), wuzhikar_reader::ParseError>(())
+//! ```
+//!
+//! # The items of a text
+//!
+//! ```
+//! use wuzhikar_reader::{Items, LocalTag, ParseError, ParseFault, Tag};
+//!
+//! // Usage 30h, and an item that is cut off.
+//! let mut items = Items::new(&[0x09, 0x30, 0x26, 0xff]);
+//! let Some(Ok(usage)) = items.next() else { panic!("an item") };
+//! assert_eq!((usage.tag(), usage.offset, usage.bytes), (Tag::Local(LocalTag::Usage), 0, &[0x30][..]));
+//! assert_eq!(items.next(), Some(Err(ParseError { fault: ParseFault::Truncated, offset: 2 })));
+//! ```
 //!
 //! **Exported from a proved source.** The hidden module `parts` holds the code of crates that are proved in Rattle
 //! (Rust with contracts), without what only the prover reads. The proofs are about that source: the fields are exactly

@@ -2,6 +2,7 @@
 
 pub mod alloc;
 pub mod memory;
+pub mod smallvec;
 pub mod vec;
 
 pub use ::alloc::vec::Vec;

@@ -43,8 +43,9 @@ impl Debouncer {
     }
 }
 
-/// A keyboard and its flash in one, with the standard default codes or those of a [`Layout`]: no call of it has a condition on its caller, but that
-/// [`restart`](FlashKeyboard::restart) leaves the number of pages as it is.
+/// A keyboard and its flash in one, with the standard default codes or those of a [`Layout`].
+///
+/// No call has a condition on its caller, but that [`restart`](FlashKeyboard::restart) leaves the number of pages as it is.
 ///
 /// ```
 /// # fn main() -> Result<(), Box<dyn core::error::Error>> {
@@ -53,14 +54,14 @@ impl Debouncer {
 /// use wuzhikar::{EpAnswer, FlashKeyboard, Scan, SimFlash, Work};
 ///
 /// let mut keyboard = FlashKeyboard::start(SimFlash::blank(2)?)?;
-/// // The computer sets entry (0, 0) to the letter b, by feature report 3.
+/// // The host sets entry (0, 0) to the letter b, by feature report 3.
 /// keyboard.setup([0x21, 0x09, 0x03, 0x03, 0, 0, 6, 0]);
 /// assert_eq!(keyboard.out(&[3, 1, 0, 0, 5, 0]), EpAnswer::Ack);
-/// // It is told to wait until the assignment is in the flash.
+/// // The status stage waits until the assignment is in the flash.
 /// assert_eq!(keyboard.in_packet(), EpAnswer::Nak);
 /// while keyboard.work() != Work::Idle {}
 /// assert!(matches!(keyboard.in_packet(), EpAnswer::Packet(packet) if packet.is_empty()));
-/// // After a loss of power it is there.
+/// // After a power loss it is there.
 /// let mut keyboard = FlashKeyboard::start(keyboard.into_flash())?;
 /// for _ in 0..5 {
 ///     keyboard.scan(Scan { rows: [1, 0, 0, 0, 0, 0] });
@@ -126,6 +127,23 @@ impl<F: NorFlash, D: Defaults> FlashKeyboard<F, D> {
     }
 
     /// Answers an IN token of endpoint 0 as `in_packet` does, and writes the packet into `packet` ([`Keyboard::in_packet_into`]).
+    ///
+    /// ```
+    /// # fn main() -> Result<(), Box<dyn core::error::Error>> {
+    /// # #[cfg(feature = "sim")]
+    /// # {
+    /// use wuzhikar::{FlashKeyboard, InAnswer, SimFlash};
+    ///
+    /// let mut keyboard = FlashKeyboard::start(SimFlash::blank(2)?)?;
+    /// // GET_DESCRIPTOR of the device descriptor.
+    /// keyboard.setup([0x80, 0x06, 0, 1, 0, 0, 18, 0]);
+    /// let mut packet = [0; 8];
+    /// assert_eq!(keyboard.in_packet_into(&mut packet), InAnswer::Packet(8));
+    /// assert_eq!(packet[..2], [18, 1]);
+    /// # }
+    /// # Ok(())
+    /// # }
+    /// ```
     pub fn in_packet_into(&mut self, packet: &mut [u8; 8]) -> InAnswer {
         self.keyboard.in_packet_into(packet)
     }

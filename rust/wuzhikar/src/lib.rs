@@ -1,5 +1,5 @@
-//! The firmware core of a USB keyboard: four layers of 96 keys, kept in NOR flash. A key assignment that was confirmed to the
-//! computer survives every power loss.
+//! The firmware core of a USB keyboard: four layers of 96 keys, kept in NOR flash. A key assignment that was acknowledged to
+//! the host survives every power loss.
 //!
 //! [`FlashKeyboard`] is the device with its flash; [`Keyboard`] is the device alone, and borrows its flash in the calls that
 //! use it. Each call is one event: a scan of the matrix, a packet of endpoint 0, a poll of endpoint 1, a step of the flash
@@ -62,7 +62,7 @@ pub use wuzhikar_log;
 pub use wuzhikar_log::{FlashError, Mask, SimFlash};
 pub use wuzhikar_log::{FlashFault, NorFlash, PAGE_BYTES, PAGE_SLOTS, PageCount, SLOT_BYTES};
 
-/// Debouncing by itself: a key changes where five samples in a row say so.
+/// Debouncing by itself: a key changes when five samples in a row say so.
 ///
 /// ```
 /// use wuzhikar::debounce::{Debouncer, Scan};
@@ -82,7 +82,7 @@ pub mod debounce {
 ///
 /// ```
 /// use wuzhikar::Protocol;
-/// use wuzhikar::control_ep::{ControlEp, DeviceView, Effect, EpAnswer, OutStep};
+/// use wuzhikar::control_ep::{ControlEp, DeviceView, Effect, EpAnswer, OutStep, Verdict};
 ///
 /// let view = DeviceView {
 ///     protocol: Protocol::Report,
@@ -99,6 +99,47 @@ pub mod debounce {
 /// endpoint.setup([0x21, 0x09, 1, 2, 0, 0, 2, 0], &view);
 /// assert_eq!(endpoint.out(&[1, 0b11]), OutStep::Leds(0b11));
 /// assert!(matches!(endpoint.in_packet(), (EpAnswer::Packet(_), Effect::Nothing)));
+/// // SET_REPORT of a command: its status packet waits until the command is stored.
+/// endpoint.setup([0x21, 0x09, 3, 3, 0, 0, 6, 0], &view);
+/// assert_eq!(endpoint.out(&[3, 1, 0, 0, 5, 0]), OutStep::Offer([1, 0, 0, 5, 0]));
+/// assert_eq!(endpoint.verdict(Verdict::Working), EpAnswer::Ack);
+/// assert_eq!(endpoint.in_packet(), (EpAnswer::Nak, Effect::Nothing));
+/// endpoint.settle();
+/// assert!(matches!(endpoint.in_packet(), (EpAnswer::Packet(_), Effect::Nothing)));
+/// ```
+///
+/// A device whose reports are made only when a host reads them implements [`DeviceReports`](control_ep::DeviceReports):
+///
+/// ```
+/// use wuzhikar::Protocol;
+/// use wuzhikar::control_ep::{ControlEp, DeviceReports, Effect, EpAnswer};
+///
+/// struct Device {
+///     leds: u8,
+/// }
+///
+/// impl DeviceReports for Device {
+///     fn protocol(&self) -> Protocol {
+///         Protocol::Report
+///     }
+///
+///     fn leds(&self) -> u8 {
+///         self.leds
+///     }
+///
+///     // And so on.
+/// #     fn idle_one(&self) -> u8 { 0 }
+/// #     fn idle_two(&self) -> u8 { 0 }
+/// #     fn feature(&self) -> [u8; 6] { [3, 0, 0, 0, 4, 0] }
+/// #     fn bitmap(&self) -> [u8; 23] { [1; 23] }
+/// #     fn consumer(&self) -> [u8; 9] { [2; 9] }
+/// #     fn boot(&self) -> [u8; 8] { [0; 8] }
+/// }
+///
+/// let mut endpoint = ControlEp::new();
+/// // GET_REPORT of the LEDs, output report 1.
+/// endpoint.setup_from([0xa1, 0x01, 1, 2, 0, 0, 2, 0], &Device { leds: 0b10 });
+/// assert_eq!(endpoint.in_packet(), (EpAnswer::Packet([1, 0b10].into_iter().collect()), Effect::Nothing));
 /// ```
 pub mod control_ep {
     pub use crate::parts::control_ep::{

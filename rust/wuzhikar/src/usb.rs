@@ -1,6 +1,7 @@
-//! What the keyboard is on the bus: its descriptors, its endpoints, and the lengths of packets and reports. The
-//! descriptors are those of the proved source. Written by hand is that they and their numbers can be named from
-//! outside; tests compare each number with the descriptor that it stands in.
+//! The keyboard's descriptors, its endpoints, and the lengths of its packets and reports.
+//!
+//! The descriptors are those of the proved source. Their names and the numbers are by hand: tests compare each number with
+//! the descriptor that it stands in.
 
 pub use crate::parts::descriptor_build::CONFIGURATION as CONFIGURATION_DESCRIPTOR;
 pub use crate::parts::descriptor_build::DEVICE as DEVICE_DESCRIPTOR;

@@ -1,24 +1,17 @@
 -- Representation: what is left to be given of what was asked.
-use Rattle.std.specs.Prelude.{ℕ, zero, suc, ◌==◌, ◌&&◌, if◌then◌else◌, not, Bool, List, [], ◌∷◌, ◌++◌, drop, filter, find, Option, None, Some, Result, Ok, Err}
-use Rattle.std.specs.Prelude.{◌≤◌, ◌≢◌, length}
+use Rattle.std.specs.Prelude.{ℕ, zero, suc, ◌==◌, ◌&&◌, not, Bool, List, [], ◌∷◌, drop, filter, find, Option, None, Some}
 use Rattle.std.specs.Borrow.{Bor}
 use Rattle.descriptor_parse.specs.declared.field.Kind.{Kind}
-use Rattle.descriptor_parse.specs.declared.fault.ParseError.{ParseError}
-use Rattle.descriptor_parse.specs.Items.{ItemValue}
-use Rattle.descriptor_parse.specs.Globals.{unsigned}
 use Rattle.field_details.specs.declared.collection.Collection.{Collection}
 use Rattle.field_details.specs.declared.detail.Detail.{Detail}
 use Rattle.field_details.specs.declared.placed.Placed.{Placed}
 use Rattle.field_details.specs.declared.placed.Question.{Question}
 use Rattle.field_details.specs.declared.placed.Question.TheVariants.{Data, Padding, Report, First, FirstInside}
 use Rattle.field_details.specs.declared.report.ReportFacts.{ReportFacts}
-use Rattle.field_details.specs.declared.naming.Naming.{Naming}
 use Rattle.field_details.specs.AsFields.{is_of_data}
-use Rattle.field_details.specs.Extents.{is_with}
 use Rattle.field_details.specs.Around.{is_application, inside_in}
 use Rattle.field_details.specs.representation.Around.{outer_in, height}
 use Rattle.field_details.specs.Reports.{numbered, is_of_report, is_first, is_first_inside, has_inside}
-use Rattle.field_details.specs.Names.{minimum_prefix, maximum_prefix, made}
 use Rattle.field_details.specs.representation.Relation.{end_in}
 
 -- ---- the collections outwards from one, by their numbers
@@ -62,24 +55,3 @@ facts_in reported p = record { kind = p.1.kind; id = p.1.id; bits = end_in p.1.k
 abbrev pub belongs : Option (Kind × ℕ) → List Detail → List Collection → ℕ × Collection → Bool
 belongs None reported groups = λ p. p.1.kind == 1
 belongs (Some report) reported groups = λ p. p.1.kind == 1 && has_inside (application_in reported groups) p.0 report.0 report.1 reported
-
--- ---- strings and designators
-
--- the Minimum that waits after an item
-abbrev pub waits : Naming → ItemValue → Option ℕ → Option ℕ
-waits naming item least =
-    if is_with (minimum_prefix naming) item then Some (unsigned item.bytes)
-    else (if is_with (maximum_prefix naming) item then None else least)
-
--- what the next items make, n at most
-abbrev pub names_left : Naming → ℕ → Option ℕ → List (Result ItemValue ParseError) → List (ℕ × ℕ)
-names_left naming zero least more = []
-names_left naming (suc n) least [] = []
-names_left naming (suc n) least (Ok item ∷ more) = made naming item least ++ names_left naming n (waits naming item least) more
-names_left naming (suc n) least (Err e ∷ more) = []
-
--- a short item has 0, 1, 2 or 4 bytes of data
-abbrev pub AreShort : List (Result ItemValue ParseError) → Type 0
-AreShort [] = Unit
-AreShort (Ok item ∷ more) = (item.prefix ≢ 254 → (length item.bytes ≤ 4) × (length item.bytes ≢ 3)) × AreShort more
-AreShort (Err e ∷ more) = AreShort more

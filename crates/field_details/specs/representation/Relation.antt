@@ -16,6 +16,7 @@ use Rattle.field_details.specs.Extents.{latest_with, power_of}
 use Rattle.field_details.specs.Collections.{first_usage, open_now, collections}
 use Rattle.field_details.specs.Details.{details}
 use Rattle.field_details.specs.Reports.{is_of_report}
+use Rattle.field_details.specs.representation.Named.{ArePending, TellsNames}
 
 -- ---- Global items that the parser skips
 
@@ -81,3 +82,5 @@ pub record WalkRefines (before : List ItemValue) (walk : Walk) : Type 0 where
   pub opened : walk.opened.items ≡ open_now before
   pub fields : walk.reported.fields.items ≡ details before
   pub groups : walk.reported.collections.items ≡ collections before
+  pub pending : ArePending (since_main before) walk.pending
+  pub names : TellsNames before walk.reported

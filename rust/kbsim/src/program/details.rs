@@ -4,7 +4,7 @@ use super::ends::Ended;
 use super::items::flag_words;
 use super::texts::reader_of;
 use std::io::{self, Write};
-use wuzhikar_hid::{Collection, Detail, Dimension, Naming, Reader, UsageName, namings};
+use wuzhikar_hid::{Collection, Detail, Details, Dimension, Reader, UsageName};
 
 /// A collection or a data item, by its place.
 enum Node {
@@ -78,11 +78,12 @@ fn usage_words(ranges: &[(u32, u32)]) -> String {
 
 fn put_field(
     out: &mut impl Write,
-    text: &[u8],
-    detail: &Detail,
+    told: &Details,
+    place: usize,
     ranges: Option<&[(u32, u32)]>,
     indent: &str,
 ) -> io::Result<()> {
+    let detail = &told.fields[place];
     let what = ranges.map_or_else(|| "padding".into(), usage_words);
     let id = if detail.id == 0 { String::new() } else { format!(" {}", detail.id) };
     writeln!(out, "{indent}{:?}{id}: {what}", detail.kind)?;
@@ -98,9 +99,8 @@ fn put_field(
         line += &format!(", physical {least} to {greatest}");
         line += &if unit.is_empty() { unit } else { format!(" {unit}") };
     }
-    for (naming, word) in [(Naming::String, "strings"), (Naming::Designator, "designators")] {
-        let all: Vec<String> =
-            namings(text, detail.offset, naming).map(|range| format!("{}-{}", range.start(), range.end())).collect();
+    for (ranges, word) in [(told.strings(place), "strings"), (told.designators(place), "designators")] {
+        let all: Vec<String> = ranges.iter().map(|(first, last)| format!("{first}-{last}")).collect();
         if !all.is_empty() {
             line += &format!(", {word} {}", all.join(" "));
         }
@@ -119,10 +119,10 @@ pub fn parse(text: &[u8], out: &mut impl Write) -> Result<(), Ended> {
                 writeln!(out, "{indent}{}", collection_words(&reader.details().collections[place]))?;
             }
             Node::Field(place) => {
-                let detail = &reader.details().fields[place];
-                let ranges = (!detail.is_constant()).then(|| reader.descriptor().ranges(fields));
+                let told = reader.details();
+                let ranges = (!told.fields[place].is_constant()).then(|| reader.descriptor().ranges(fields));
                 fields += usize::from(ranges.is_some());
-                put_field(out, text, detail, ranges, &indent)?;
+                put_field(out, told, place, ranges, &indent)?;
             }
         }
     }

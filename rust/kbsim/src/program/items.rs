@@ -56,6 +56,7 @@ pub fn parse(text: &[u8], out: &mut impl Write) -> Result<(), Ended> {
         None => Ok(put_lines(text, &lines.all, None, out)?),
         Some(Refusal::Parse(error)) if error.fault != ParseFault::Memory => {
             put_lines(text, &lines.all, Some(error), out)?;
+            out.flush()?;
             let line = format!("fault parse {} at {}", error.fault.number(), error.offset);
             Err(Ended::fault(line, super::sentences::of_item(text, error)))
         }

@@ -8,8 +8,7 @@ use super::texts::reader_of;
 use serde_json::{Value as Json, json};
 use std::io::{self, Write};
 use wuzhikar_hid::{
-    Detail, Details, Dimension, Kind, Naming, Reader, ReaderError, Reading, ReadingError, UsageName, Value, Within, details,
-    namings,
+    Detail, Details, Dimension, Kind, Reader, ReaderError, Reading, ReadingError, UsageName, Value, Within, details,
 };
 use wuzhikar_reader::parts::descriptor_parse::beside::{Beside, Refusal, parse_beside};
 use wuzhikar_reader::parts::descriptor_parse::globals::Globals;
@@ -35,12 +34,8 @@ fn unit(detail: &Detail) -> Json {
     })
 }
 
-fn named(text: &[u8], detail: &Detail, naming: Naming) -> Json {
-    namings(text, detail.offset, naming).map(|range| json!([range.start(), range.end()])).collect()
-}
-
 /// A data item: its place among these details, its ranges of usages, and its number among the fields.
-fn field(text: &[u8], details: &Details, place: usize, ranges: &[(u32, u32)], number: Option<usize>) -> Json {
+fn field(details: &Details, place: usize, ranges: &[(u32, u32)], number: Option<usize>) -> Json {
     let detail = &details.fields[place];
     let (least, greatest) = detail.physical();
     let usages: Json = ranges
@@ -65,8 +60,8 @@ fn field(text: &[u8], details: &Details, place: usize, ranges: &[(u32, u32)], nu
         "usages": usages,
         "collections": details.around(place).collect::<Vec<_>>(),
         "application": details.application(place),
-        "strings": named(text, detail, Naming::String),
-        "designators": named(text, detail, Naming::Designator),
+        "strings": details.strings(place),
+        "designators": details.designators(place),
     })
 }
 
@@ -78,7 +73,7 @@ fn fields(text: &[u8], reader: &Reader) -> Result<Vec<(Option<usize>, Json)>, Re
     for (place, detail) in reader.details().fields.iter().enumerate() {
         let is_field = !detail.is_constant();
         let ranges = if is_field { reader.descriptor().ranges(number) } else { &[] };
-        all.push((detail.offset, Some(place), field(text, reader.details(), place, ranges, is_field.then_some(number))));
+        all.push((detail.offset, Some(place), field(reader.details(), place, ranges, is_field.then_some(number))));
         number += usize::from(is_field);
     }
     all.sort_by_key(|(offset, ..)| *offset);
@@ -96,6 +91,8 @@ struct Empty<'t> {
     /// The Main and Global items so far: they alone say anything of those behind the next Main item.
     before: Vec<u8>,
     usages: Vec<u8>,
+    /// The strings and designators since the latest Main item.
+    names: Vec<u8>,
     depth: usize,
     found: Vec<(usize, Json)>,
 }
@@ -107,13 +104,13 @@ impl Empty<'_> {
         let (ones, page) = ([0x75, 1, 0x95, 1], [0x06, low, high]);
         let alone = parsed(&[&self.usages, &page[..], &ones, own].concat());
         let ends = vec![0xC0; self.depth];
-        let mut told = details(&[&self.before[..], &ones, &[item.prefix & 0xFC | 1, 1], &ends].concat())?;
+        let mut told = details(&[&self.before[..], &ones, &self.names, &[item.prefix & 0xFC | 1, 1], &ends].concat())?;
         let last = told.fields.len() - 1;
         let detail = &mut told.fields[last];
         (detail.offset, detail.size, detail.count) = (item.offset, globals.size, globals.count);
         detail.flags = unsigned(item.bytes);
         let ranges = alone.as_ref().map_or(&[] as &[_], |alone| alone.ranges(0));
-        Ok(field(self.text, &told, last, ranges, None))
+        Ok(field(&told, last, ranges, None))
     }
 }
 
@@ -122,13 +119,16 @@ impl Beside for Empty<'_> {
         let (own, globals) = (&self.text[item.offset..item.offset + 1 + item.bytes.len()], before.globals());
         match item.tag() {
             Tag::Local(_) => self.usages.extend_from_slice(own),
+            Tag::Skipped if item.prefix & 0x0C == 0x08 => self.names.extend_from_slice(own),
             Tag::Main(MainTag::Data(_)) if globals.size == 0 || globals.count == 0 => {
                 let told = self.told(item, own, globals).map_err(|_| AllocError)?;
                 self.found.push((item.offset, told));
-                self.usages.clear();
             }
-            Tag::Main(_) => self.usages.clear(),
             _ => {}
+        }
+        if let Tag::Main(_) = item.tag() {
+            self.usages.clear();
+            self.names.clear();
         }
         if item.prefix & 0x08 == 0 {
             self.before.extend_from_slice(own);
@@ -139,7 +139,7 @@ impl Beside for Empty<'_> {
 }
 
 fn empty(text: &[u8]) -> Result<Vec<(usize, Json)>, Refusal> {
-    let mut empty = Empty { text, before: Vec::new(), usages: Vec::new(), depth: 0, found: Vec::new() };
+    let mut empty = Empty { text, before: Vec::new(), usages: Vec::new(), names: Vec::new(), depth: 0, found: Vec::new() };
     parse_beside((), text, &mut empty).map(|_| empty.found)
 }
 

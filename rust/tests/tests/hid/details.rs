@@ -1,6 +1,6 @@
 //! What a descriptor says beside its fields: details, collections, and the calls over them.
 
-use wuzhikar_hid::{Detail, Details, Dimension, Kind, Naming, PlacedFields, details, namings};
+use wuzhikar_hid::{Detail, Details, Dimension, Kind, PlacedFields, details};
 use wuzhikar_tests::{bytes, expect, hex_number};
 
 fn kind(kind: Kind) -> &'static str {
@@ -49,7 +49,11 @@ fn places(word: &str, fields: PlacedFields<'_>, all: &mut Vec<String>) {
     all.extend(fields.map(|placed| format!("{word} {}", placed.place)));
 }
 
-fn answers(told: &Details, text: &[u8]) -> Vec<String> {
+fn names(word: &str, ranges: &[(u32, u32)], all: &mut Vec<String>) {
+    all.extend(ranges.iter().map(|(first, last)| format!("{word} {first} to {last}")));
+}
+
+fn answers(told: &Details) -> Vec<String> {
     let mut all = Vec::new();
     places("data", told.data_fields(), &mut all);
     places("padding", told.padding(), &mut all);
@@ -62,22 +66,21 @@ fn answers(told: &Details, text: &[u8]) -> Vec<String> {
         all.push(format!("application {number}"));
         all.extend(told.reports_of(number).map(|(of, id)| format!("{} {id}", kind(of))));
     }
-    for (place, detail) in told.fields.iter().enumerate() {
+    for place in 0..told.fields.len() {
         all.extend(told.around(place).map(|number| format!("around {number}")));
-        for (word, naming) in [("string", Naming::String), ("designator", Naming::Designator)] {
-            let ranges = namings(text, detail.offset, naming);
-            all.extend(ranges.map(|range| format!("{word} {} to {}", range.start(), range.end())));
-        }
+        names("string", told.strings(place), &mut all);
+        names("designator", told.designators(place), &mut all);
+    }
+    for number in 0..told.collections.len() {
+        names("collection's string", told.collection_strings(number), &mut all);
+        names("collection's designator", told.collection_designators(number), &mut all);
     }
     all
 }
 
 #[test]
 fn answers_of_a_text() {
-    expect(ANSWERS, |ask| {
-        let text = bytes(ask);
-        answers(&details(&text).expect("a descriptor"), &text).join(" ")
-    });
+    expect(ANSWERS, |ask| answers(&details(&bytes(ask)).expect("a descriptor")).join(" "));
 }
 
 const ANSWERS: &str = "

@@ -1,6 +1,6 @@
 //! Texts of the greatest length, and numbers that are as large as they can be.
 
-use wuzhikar_hid::{Details, Kind, Naming, ParseError, ParseFault, ReaderError, details, namings};
+use wuzhikar_hid::{Details, Kind, ParseError, ParseFault, ReaderError, details};
 
 /// A text of 4,096 bytes: these, and then the others over and over.
 fn filled(start: &[u8], again: &[u8]) -> Vec<u8> {
@@ -83,24 +83,44 @@ fn as_many_fields_as_a_descriptor_has() {
     assert_eq!(told.reports_of(0).last(), Some((Kind::Input, 0)));
     assert_eq!(told.applications_of(Kind::Input, 0).last().map(|found| found.0), Some(0));
     assert_eq!(told.around(255).last(), Some(0));
-    assert_eq!(namings(&text, 1028, Naming::String).last(), Some(9..=9));
+    assert!((0..256).all(|place| told.strings(place) == [(9, 9)] && told.designators(place).is_empty()));
 }
 
-/// 2,046 data items of padding, and 2,047 strings.
+/// 2,046 data items of padding.
 #[test]
 fn as_much_as_there_can_be_is_asked() {
     let padded = told(&filled(&ONE_BIT, &[0x81, 3]));
     assert_eq!(padded.padding().last().map(|it| it.place), Some(2045));
     assert_eq!(padded.data_fields().count(), 0);
     assert_eq!(padded.reports().map(|facts| facts.bits).collect::<Vec<_>>(), [2046]);
-    let text = ended(&[], &[0x79, 7]);
-    assert_eq!(namings(&text, 4094, Naming::String).collect::<Vec<_>>(), vec![7..=7; 2047]);
 }
 
-/// A text of 65,536 bytes, which `parse` refuses.
+/// 2,045 strings or designators of one data item, and of one collection.
 #[test]
-fn strings_of_a_text_over_4096_bytes() {
-    let mut text = [0x79, 7].repeat(1 << 15);
-    text[65_534..].copy_from_slice(&[0x81, 2]);
-    assert_eq!(namings(&text, 65_534, Naming::String).count(), 32_767);
+fn as_many_names_as_there_can_be() {
+    let all = vec![(7, 7); 2045];
+    let strings = told(&ended(&ONE_BIT, &[0x79, 7]));
+    assert_eq!((strings.strings(0), strings.designators(0)), (&all[..], &[][..]));
+    let designators = told(&ended(&ONE_BIT, &[0x39, 7]));
+    assert_eq!((designators.strings(0), designators.designators(0)), (&[][..], &all[..]));
+    let mut text = filled(&[0x0A, 1, 0], &[0x79, 7]);
+    text[4093..].copy_from_slice(&[0xA1, 1, 0xC0]);
+    assert_eq!(told(&text).collection_strings(0), all);
+}
+
+/// A string of each data item, and of the last one alone.
+#[test]
+fn names_of_as_many_items_as_there_can_be() {
+    let each = told(&filled(&ONE_BIT, &[0x79, 7, 0x81, 3]));
+    assert!(each.fields.len() == 1023 && (0..1023).all(|place| each.strings(place) == [(7, 7)]));
+    let mut text = filled(&ONE_BIT, &[0x81, 3]);
+    text[4092..].copy_from_slice(&[0x39, 7, 0x81, 3]);
+    let last = told(&text);
+    assert!((0..2044).all(|place| last.designators(place).is_empty()));
+    assert_eq!((last.designators(2044), last.designators(2045)), (&[(7, 7)][..], &[][..]));
+    let mut text = filled(&[], &[0xA0, 0xC0]);
+    text[4092..].copy_from_slice(&[0x39, 7, 0xA0, 0xC0]);
+    let last = told(&text);
+    assert!((0..2046).all(|number| last.collection_designators(number).is_empty()));
+    assert_eq!(last.collection_designators(2046), [(7, 7)]);
 }

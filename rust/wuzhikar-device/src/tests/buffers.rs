@@ -53,7 +53,9 @@ fn serve<D: Layouted>(usb: &mut Usb<D>, bus: &RefCell<Bus>) {
     }
     usb.serve(&mut Played::on(bus));
     let bus = bus.borrow();
-    assert!(!bus.host.is_conforming() || given.is_none() || bus.given != given || given.is_some_and(|(to, _)| to == bus.address));
+    assert!(
+        !bus.host.is_conforming() || given.is_none() || bus.given != given || given.is_some_and(|(to, _)| to == bus.address)
+    );
 }
 
 /// A history: the firmware serves, scans and works in turns, while at each call to the controller something happens on the

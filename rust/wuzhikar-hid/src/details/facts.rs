@@ -5,6 +5,25 @@ use core::fmt;
 
 impl Detail {
     /// Returns the exponents of all dimensions of the unit, in the order of [`Dimension::ALL`]; all 0 if no unit is declared.
+    ///
+    /// # Errors
+    ///
+    /// `NoUnit` if the digits are none of HID 1.11, section 6.2.2.7.
+    ///
+    /// ```
+    /// use wuzhikar_hid::{Dimension, NoUnit, details};
+    ///
+    /// // A speed in centimetres per second, and a field in a unit of the vendor's.
+    /// let text = [
+    ///     0x05, 0x01, 0x09, 0x40, 0x25, 0x7f, 0x75, 8, 0x95, 1, 0x66, 0x11, 0xf0, 0x81, 0x02, 0x09, 0x41, 0x65, 0x1f, 0x81, 0x02,
+    /// ];
+    /// let details = details(&text)?;
+    /// assert_eq!(details.fields[0].unit_name(), Some("centimetre per second"));
+    /// assert_eq!(details.fields[0].unit_exponents(), Ok([1, 0, -1, 0, 0, 0]));
+    /// assert_eq!(details.fields[0].unit_exponent_of(Dimension::Time), -1);
+    /// assert_eq!(details.fields[1].unit_exponents(), Err(NoUnit::Vendor));
+    /// # Ok::<(), wuzhikar_hid::ReaderError>(())
+    /// ```
     pub fn unit_exponents(&self) -> Result<[i8; 6], NoUnit> {
         match self.unit_system() {
             _ if self.unit_reserved() != 0 => Err(NoUnit::ReservedDigit),
@@ -46,7 +65,7 @@ impl Detail {
     }
 }
 
-/// Why the digits of a unit are none that HID 1.11 (6.2.2.7) knows. Where several hold, the first is told.
+/// Why the digits of a unit are none that HID 1.11 (6.2.2.7) knows. If several hold, the first is reported.
 #[derive(Clone, Copy, Debug, PartialEq, Eq)]
 pub enum NoUnit {
     /// The highest digit, which is reserved, is not 0.

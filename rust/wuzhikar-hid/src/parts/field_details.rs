@@ -2,8 +2,8 @@
 //! What a report descriptor declares beside the bits of its fields (HID 1.11, sections 6.2.2.4 to 6.2.2.8).
 //!
 //! [`parse_details`] parses a text as `descriptor_parse` does, and keeps of each data item, padding among them, all bits of the
-//! item, the logical and the physical extents, the unit and its power of ten, and the collections around it. Who asks for the
-//! fields alone pays nothing for it.
+//! item, the logical and the physical extents, the unit and its power of ten, the collections around it, and its strings and
+//! designators. Who asks for the fields alone pays nothing for it.
 //!
 //! The guarantee is that each of these is exactly what the items before the data item say, as a function of the history.
 
@@ -13,7 +13,9 @@ pub mod collection;
 pub mod detail;
 mod details;
 mod extents;
+mod names;
 mod naming;
+mod pending;
 mod placed;
 mod report;
 mod text;
@@ -25,7 +27,6 @@ pub use around::Around;
 pub use collection::Collection;
 pub use detail::Detail;
 pub use details::Details;
-pub use naming::{NamedRanges, Naming, namings};
 pub use placed::{Placed, PlacedFields};
 pub use report::{ReportFacts, Reports, ReportsOf};
 pub use text::parse_details;

@@ -1,4 +1,4 @@
-//! What tells of a device on Linux: `rdesc`, `usbhid-dump` and `hid-recorder`.
+//! What describes a device on Linux: `rdesc`, `usbhid-dump` and `hid-recorder`.
 
 use super::{Fault, Why, digits, lines, pair, words};
 use alloc::vec::Vec;
@@ -16,7 +16,15 @@ pub enum Line {
     Damaged(Fault),
 }
 
-/// What a line of a recording says; `None` where it is none.
+/// Reads a line of a recording; `None` if it is none.
+///
+/// ```
+/// use wuzhikar_hid::texts::{Line, line_of};
+///
+/// assert_eq!(line_of(b"E: 000000.008123 2 01 fe"), Some(Line::Report(vec![0x01, 0xfe])));
+/// assert_eq!(line_of(b"001:002:000:STREAM 1303325321.298640"), Some(Line::Block(true)));
+/// assert_eq!(line_of(b"a word"), None);
+/// ```
 pub fn line_of(line: &[u8]) -> Option<Line> {
     if !line.iter().take(4).any(|byte| *byte == b':') {
         return None;

@@ -8,13 +8,13 @@ use alloc::string::String;
 const MOST_OF_WORD: usize = 40;
 
 impl Fault {
-    /// Why this text does not say bytes: line, column, and what is wrong there.
+    /// Returns why this text does not say bytes: line, column, and what is wrong there.
     pub fn sentence(self, text: &[u8]) -> String {
         let (line, column) = place_of(text, self.at);
         format!("line {line}, column {column}: {}", self.words(text))
     }
 
-    /// What is wrong there.
+    /// Returns what is wrong there.
     pub fn words(self, text: &[u8]) -> String {
         let word = || shown(word_at(text, self.at));
         match self.why {
@@ -55,7 +55,7 @@ fn place_of(text: &[u8], place: usize) -> (usize, usize) {
     (lines + 1, before.iter().rev().take_while(|byte| **byte != b'\n').count() + 1)
 }
 
-/// The bytes of a word, of a long one the first: characters that can be seen, or else their numbers.
+/// Returns the bytes of a word as text, of a long one the first 40: characters that can be seen, or else their numbers in hex.
 pub fn shown(word: &[u8]) -> String {
     let byte = |byte: &u8| if byte.is_ascii_graphic() { char::from(*byte).into() } else { format!("\\x{byte:02x}") };
     let bytes: String = word.iter().take(MOST_OF_WORD).map(byte).collect();

@@ -12,6 +12,18 @@ impl Reader {
     /// # Errors
     ///
     /// The first fault that is left with its offset in bytes, or refused memory.
+    ///
+    /// ```
+    /// use wuzhikar_hid::{ParseFault, Reader};
+    ///
+    /// // A field of 64 bits, which becomes padding, and one of 8.
+    /// let text = [0x06, 0x00, 0xff, 0x95, 1, 0x75, 64, 0x09, 1, 0x81, 0x02, 0x75, 8, 0x09, 2, 0x81, 0x02];
+    /// let (reader, Some(lenient)) = Reader::lenient(&text)? else { panic!("a fault was passed over") };
+    /// assert_eq!(lenient.passed()[0].fault, ParseFault::SizeTooLarge);
+    /// let second = reader.placed(0).map_or(0, |placed| placed.detail.offset);
+    /// assert_eq!(lenient.origin(second), 15);
+    /// # Ok::<(), wuzhikar_hid::ReaderError>(())
+    /// ```
     pub fn lenient(text: &[u8]) -> Result<(Reader, Option<Lenient>), ReaderError> {
         let refused = match Reader::new(text) {
             Ok(reader) => return Ok((reader, None)),

@@ -40,13 +40,32 @@ impl fmt::Display for NoValue {
 impl core::error::Error for NoValue {}
 
 impl Detail {
-    /// Returns the value within the logical extents that is just `numerator` / `denominator` in the unit, with the power of ten
-    /// that stands beside it: what [`physical_value`](Detail::physical_value) gives of it is that.
+    /// Returns the value within the logical extents that is just `numerator` / `denominator` in the unit, its power of ten
+    /// counted in. [`physical_value`](Detail::physical_value) of it is that.
     ///
     /// # Errors
     ///
-    /// `NoPhysical` says why the values of the field have no physical ones. Else `NoStep`, where the denominator is 0, no value
+    /// `NoPhysical` says why the values of the field have no physical ones. Else `NoStep`: the denominator is 0, no value
     /// within the logical extents is just so much, or all of several are.
+    ///
+    /// ```
+    /// use wuzhikar_hid::{NoPhysical, NoValue, details};
+    ///
+    /// // A dial of 0 to 15 for 0 to 270 degrees, and a bit without extents.
+    /// let text = [
+    ///     0x05, 0x01, 0x09, 0x37, 0x25, 0x0f, 0x46, 0x0e, 0x01, 0x65, 0x14, 0x75, 8, 0x95, 1, 0x81, 0x02, 0x25, 0x00, 0x75, 1,
+    ///     0x81, 0x02,
+    /// ];
+    /// let details = details(&text)?;
+    /// let dial = details.fields[0];
+    /// let physical = dial.physical_value(5)?;
+    /// assert_eq!((physical.numerator, physical.denominator, physical.exponent), (90, 1, 0));
+    /// assert_eq!(physical.decimal(1), "90");
+    /// assert_eq!(dial.value_of(90, 1), Ok(5));
+    /// assert_eq!(dial.value_of(91, 1), Err(NoValue::NoStep));
+    /// assert_eq!(details.fields[1].physical_value(1), Err(NoPhysical::EqualLimits));
+    /// # Ok::<(), Box<dyn std::error::Error>>(())
+    /// ```
     pub fn value_of(&self, numerator: i64, denominator: u64) -> Result<i64, NoValue> {
         self.physical_value(self.min).map_err(NoValue::NoPhysical)?;
         let value = self.step(numerator, denominator).ok_or(NoValue::NoStep)?;
@@ -89,6 +108,10 @@ fn scaled(numerator: i64, denominator: u64, exponent: i64) -> Option<(i128, i128
 impl Detail {
     /// Returns the physical value of a logical one, on the line through the logical and the physical extents, also past
     /// their ends (HID 1.11, section 6.2.2.7).
+    ///
+    /// # Errors
+    ///
+    /// `NoPhysical` if these extents make no line.
     pub fn physical_value(&self, value: i64) -> Result<Physical, NoPhysical> {
         let (min, max) = self.physical();
         physical_value(Extents { min: self.min, max: self.max }, Extents { min, max }, self.exponent, value)
@@ -96,15 +119,16 @@ impl Detail {
 }
 
 impl Physical {
-    /// Returns the value as a decimal, cut off after so many digits behind the point, at most 18; with `e` and the power of ten
-    /// behind it where that is beyond 18 either way, or the whole would have more than 38 digits.
+    /// Returns the value as a decimal, cut off after so many digits behind the point, at most 18.
+    ///
+    /// `e` and the power of ten follow if that is beyond 18 either way, or the whole would have more than 38 digits.
     pub fn decimal(&self, digits: u32) -> String {
         let mut text = String::new();
         let _ = self.write_decimal(digits, &mut text);
         text
     }
 
-    /// Writes what [`decimal`](Physical::decimal) gives, and takes no memory itself.
+    /// Writes what [`decimal`](Physical::decimal) gives, and takes no memory itself. An error is that of `out`.
     pub fn write_decimal(&self, digits: u32, out: &mut impl fmt::Write) -> fmt::Result {
         let (mut above, mut below, mut left) = (self.numerator, self.denominator, self.exponent);
         if (-18..=18).contains(&left) {

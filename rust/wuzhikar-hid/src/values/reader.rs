@@ -9,7 +9,7 @@ use wuzhikar_reader::parts::descriptor_parse::beside::Refusal;
 use wuzhikar_reader::parts::host_extract::number_at;
 use wuzhikar_reader::{Descriptor, Kind, ParseError};
 
-/// A reader of reports that is made once of a report descriptor.
+/// A reader of reports that is made once of a report descriptor. The [root of the crate](crate) shows it in drivers.
 #[derive(Clone, Debug)]
 pub struct Reader {
     reports: ReportReader,
@@ -59,6 +59,14 @@ impl Reader {
     /// # Errors
     ///
     /// The first fault of the text with its offset in bytes, or refused memory.
+    ///
+    /// ```
+    /// use wuzhikar_hid::{ParseError, ParseFault, Reader, ReaderError};
+    ///
+    /// // A Collection that is not closed.
+    /// let refused = Reader::new(&[0xa1, 0x01]).unwrap_err();
+    /// assert_eq!(refused, ReaderError::Parse(ParseError { fault: ParseFault::CollectionOpen, offset: 2 }));
+    /// ```
     pub fn new(text: &[u8]) -> Result<Reader, ReaderError> {
         let (descriptor, details) = parse_details((), text)?;
         let (mut places, mut null_states) = (Vec::new(), Vec::new());
@@ -88,8 +96,8 @@ impl Reader {
         self.details.fields.get(*self.places.get(field)?)
     }
 
-    /// Returns the same with its place in [`Details::fields`], where padding counts too, as [`Details::around`] and
-    /// [`Details::application`] take it.
+    /// Returns the attributes of a field with its place in [`Details::fields`], where padding counts too. [`Details::around`]
+    /// and [`Details::application`] take that place.
     pub fn placed(&self, field: usize) -> Option<Placed<'_>> {
         let place = *self.places.get(field)?;
         Some(Placed { place, detail: self.details.fields.get(place)? })
@@ -102,27 +110,56 @@ impl Reader {
 
     /// Reads the values of a report one by one (HID 1.11, sections 5.6 and 8.4). It begins with its ID byte if the
     /// descriptor uses Report IDs. Bytes past its end are left, as [`Reading::rest`].
+    ///
+    /// # Errors
+    ///
+    /// In this order: `Empty`, `UnknownReport`, `Short`.
     #[inline]
     pub fn read<'a>(&'a self, kind: Kind, report: &'a [u8]) -> Result<Reading<'a>, ReadingError> {
         self.reports.read(kind, report)
     }
 
     /// Returns the usages that are on in a report of a kind, rising, each once: those that arrays name, and those of variable fields
-    /// whose value isn't 0. A value outside the logical extents is off, a null too. That is meant for keys, buttons and LEDs: an
-    /// axis counts as on wherever it isn't 0. 07:01 to 07:03 (ErrorRollOver, POSTFail, ErrorUndefined) are told as any usage; such
-    /// a report doesn't say which keys are down.
+    /// whose value isn't 0.
+    ///
+    /// A value outside the logical extents is off, a null too. That is meant for keys, buttons and LEDs: an axis counts as on
+    /// wherever it isn't 0. Usages 01h to 03h of page 07h (ErrorRollOver, POSTFail, ErrorUndefined) are reported as any other;
+    /// such a report doesn't say which keys are down.
+    ///
+    /// # Errors
+    ///
+    /// As [`read`](Self::read), and `Memory`.
     pub fn pressed(&self, kind: Kind, report: &[u8]) -> Result<Vec<u32>, ReadingError> {
         report_read::pressed((), &self.reports, kind, report)
     }
 
-    /// Returns the usages in which two reports of a kind and ID differ: those that are on in the later one alone, and those that are on
-    /// in the earlier one alone. A driver keeps the last report of each ID.
+    /// Returns the usages in which two reports of a kind and ID differ: on in the later one alone, or in the earlier one alone.
+    /// A driver keeps the last report of each ID.
+    ///
+    /// # Errors
+    ///
+    /// As [`read`](Self::read) of `before`, then of `now`; then `OtherId`, and `Memory`.
     pub fn changes(&self, kind: Kind, before: &[u8], now: &[u8]) -> Result<Changed, ReadingError> {
         report_read::changes((), &self.reports, kind, before, now)
     }
 
-    /// Returns the bytes of a field of Buffered Bytes in a report: the bits of its elements one after the other, the last
-    /// byte filled up with 0.
+    /// Returns the bytes of a field of Buffered Bytes in a report (HID 1.11, section 6.2.2.5): the bits of its elements one after
+    /// the other. The last byte is filled up with 0.
+    ///
+    /// # Errors
+    ///
+    /// As [`read`](Self::read); then `NoSuchField` if the report has no such field of Buffered Bytes, and `Memory`.
+    ///
+    /// ```
+    /// use wuzhikar_hid::{Kind, Reader, ReadingError};
+    ///
+    /// // A text of four bytes.
+    /// let text = [0x05, 0x14, 0x09, 0x2c, 0x26, 0xff, 0x00, 0x75, 8, 0x95, 4, 0x82, 0x02, 0x01];
+    /// let reader = Reader::new(&text)?;
+    /// assert_eq!(reader.buffered(Kind::Input, b"Wuzh", 0)?, b"Wuzh");
+    /// assert_eq!(reader.buffered(Kind::Input, b"Wuzh", 1), Err(ReadingError::NoSuchField));
+    /// # Ok::<(), Box<dyn std::error::Error>>(())
+    /// ```
     pub fn buffered(&self, kind: Kind, report: &[u8], field: usize) -> Result<Vec<u8>, ReadingError> {
         let id = self.read(kind, report)?.id();
         let report = report.get(usize::from(self.descriptor().uses_ids())..).unwrap_or(&[]);

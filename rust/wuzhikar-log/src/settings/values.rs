@@ -5,13 +5,13 @@ use crate::parts::settings::{SettingsError, Value};
 macro_rules! numbers {
     ($($type:ty, $name:ident);*) => {
         impl Value {
-            $(/// The number, unless the value has another count of bytes.
+            $(/// Returns the value as a number, the lowest byte first; `None` if it has another count of bytes.
             pub fn $name(&self) -> Option<$type> {
                 Some(<$type>::from_le_bytes(self.as_bytes().try_into().ok()?))
             })*
         }
 
-        $(/// A number in its bytes, the lowest one first.
+        $(/// Makes the value of a number, the lowest byte first.
         impl From<$type> for Value {
             fn from(number: $type) -> Value {
                 short(&number.to_le_bytes())
@@ -27,14 +27,14 @@ fn short(bytes: &[u8]) -> Value {
     Value::new(bytes).unwrap_or_else(|| unreachable!())
 }
 
-/// A truth value in one byte, 0 or 1.
+/// Makes the value of a truth value: one byte, 0 or 1.
 impl From<bool> for Value {
     fn from(truth: bool) -> Value {
         short(&[truth.into()])
     }
 }
 
-/// Text of at most 64 bytes of UTF-8; longer text is [`SettingsError::TooLong`].
+/// Makes the value of a text of at most 64 bytes of UTF-8; a longer one is [`SettingsError::TooLong`].
 ///
 /// ```
 /// use wuzhikar_log::{SettingsError, Value};
@@ -51,7 +51,7 @@ impl TryFrom<&str> for Value {
     }
 }
 
-/// At most 64 bytes; more are [`SettingsError::TooLong`].
+/// Makes the value of at most 64 bytes; more are [`SettingsError::TooLong`].
 impl TryFrom<&[u8]> for Value {
     type Error = SettingsError;
 
@@ -70,12 +70,12 @@ impl TryFrom<&[u8]> for Value {
 /// assert_eq!(Value::from(7u8).as_bool(), None);
 /// ```
 impl Value {
-    /// The bytes as text, where they are UTF-8.
+    /// Returns the bytes as text; `None` if they are not UTF-8.
     pub fn as_str(&self) -> Option<&str> {
         core::str::from_utf8(self.as_bytes()).ok()
     }
 
-    /// The truth value of one byte, 0 or 1.
+    /// Returns the truth value of one byte, 0 or 1; `None` for all else.
     pub fn as_bool(&self) -> Option<bool> {
         match self.as_bytes() {
             [0] => Some(false),

@@ -59,6 +59,13 @@ impl<T> VecIn<T> for Vec<T> {
 
     #[inline(always)]
     fn reserve_in(&mut self, more: usize) -> Result<(), AllocError> {
+        if self.capacity() == 0 {
+            // A new list in its place, so that the compiler knows of no memory to be kept.
+            let mut made = Vec::new();
+            made.try_reserve(more)?;
+            *self = made;
+            return Ok(());
+        }
         Ok(self.try_reserve(more)?)
     }
 

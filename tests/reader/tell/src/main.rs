@@ -7,9 +7,7 @@
 
 use std::fmt::Write as _;
 use std::io::{BufRead, Write};
-use wuzhikar_hid::{
-    Asked, Details, Kind, Naming, Reader, ReaderError, Setting, Target, Value, Within, WriteError, details, namings,
-};
+use wuzhikar_hid::{Asked, Details, Kind, Reader, ReaderError, Setting, Target, Value, Within, WriteError, details};
 use wuzhikar_reader::{extract, parse_lenient};
 
 fn bytes_of(hex: &str) -> Vec<u8> {
@@ -48,12 +46,10 @@ fn places(places: impl Iterator<Item = usize>) -> String {
 }
 
 /// A data item by all that is told of it.
-fn tell_item(line: &mut String, text: &[u8], told: &Details, place: usize) {
+fn tell_item(line: &mut String, told: &Details, place: usize) {
     let detail = &told.fields[place];
-    let named = |naming| {
-        let ranges = namings(text, detail.offset, naming).map(|range| format!("{}:{}", range.start(), range.end()));
-        ranges.collect::<Vec<_>>().join(",")
-    };
+    let named =
+        |ranges: &[(u32, u32)]| ranges.iter().map(|(first, last)| format!("{first}:{last}")).collect::<Vec<_>>().join(",");
     let dimensions = match detail.unit_exponents() {
         Ok(exponents) => exponents.map(|exponent| exponent.to_string()).join(","),
         Err(why) => format!("{why:?}"),
@@ -77,8 +73,8 @@ fn tell_item(line: &mut String, text: &[u8], told: &Details, place: usize) {
         detail.exponent,
         around.join(","),
         option(told.application(place)),
-        named(Naming::String),
-        named(Naming::Designator),
+        named(told.strings(place)),
+        named(told.designators(place)),
     );
 }
 
@@ -109,7 +105,7 @@ fn descriptor(text: &[u8]) -> (String, Option<Reader>) {
     let _ = write!(line, "padding {};", places(told.padding().map(|placed| placed.place)));
     let _ = write!(line, "data {};", places(told.data_fields().map(|placed| placed.place)));
     for place in 0..told.fields.len() {
-        tell_item(&mut line, text, told, place);
+        tell_item(&mut line, told, place);
     }
     (line, Some(reader))
 }

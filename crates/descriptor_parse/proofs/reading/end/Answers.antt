@@ -1,28 +1,24 @@
-use Rattle.std.proofs.Common.{arith}
 use Rattle.std.proofs.Props.{props}
 use Rattle.std.proofs.Math.Logic.{∥∥₁_elim, ∥∥₁_map}
-use Rattle.descriptor_parse.proofs.ReadingLemmas.{ends_short, ends_open, ends_well, ends_known, ends_counted, ends_linkable}
+use Rattle.descriptor_parse.proofs.ReadingLemmas.{ends_well, ends_known, ends_counted, ends_linkable}
 use Rattle.descriptor_parse.proofs.reading.end.Goals as goal
 
-pub returns-then-has_bytes : goal.returns-then-has_bytes
-returns-then-has_bytes c = λ text a. ends_short text _ _ _ a c.requires.short c.if-has_bytes.ensures
-
-pub returns-then-state-gt0 : goal.returns-then-state-gt0
-returns-then-state-gt0 c = λ text a. ends_open text _ _ _ a c.if-has_bytes.ensures c.if-state-gt0.true
+pub returns-in-Some : goal.returns-in-Some
+returns-in-Some c = λ text a. c.in-Some.ensures.refused text a
 
 pub new-requires-clause-known : goal.new-requires-clause-known
 new-requires-clause-known c = rw c.into_reports.ensures (∥∥₁_map c.requires.read (λ p.
-    ends_known p.0 _ _ _ p.1 p.2 c.if-has_bytes.ensures (omega (arith, c.if-state-gt0.false))))
+    ends_known p.0 _ _ _ p.1 p.2 c.in_default.ensures.whole c.in_default.ensures.closed))
 
 pub new-requires-clause-counted : goal.new-requires-clause-counted
 new-requires-clause-counted c = rw c.into_reports.ensures (∥∥₁_map c.requires.read (λ p.
-    ends_counted p.0 _ _ _ p.1 p.2 c.if-has_bytes.ensures (omega (arith, c.if-state-gt0.false))))
+    ends_counted p.0 _ _ _ p.1 p.2 c.in_default.ensures.whole c.in_default.ensures.closed))
 
 pub new-requires-clause-linkable : goal.new-requires-clause-linkable
 new-requires-clause-linkable c = rw c.into_reports.ensures (∥∥₁_elim c.requires.read (Prim.hlevel props) (λ p.
-    ends_linkable p.0 _ _ _ p.1 p.2 c.if-has_bytes.ensures (omega (arith, c.if-state-gt0.false))))
+    ends_linkable p.0 _ _ _ p.1 p.2 c.in_default.ensures.whole c.in_default.ensures.closed))
 
 pub returns : goal.returns
 returns c = λ text a.
     rw (c.new.ensures, c.into_reports.ensures)
-    (ends_well text _ _ _ a c.if-has_bytes.ensures (omega (arith, c.if-state-gt0.false)))
+    (ends_well text _ _ _ a c.in_default.ensures.whole c.in_default.ensures.closed)

@@ -1,7 +1,4 @@
-use Rattle.std.proofs.Common.{◌≡◌, ◌-◌, length}
 use Rattle.std.proofs.lemmas.Result.{err_from_is_err_and}
-use Rattle.descriptor_parse.specs.Items.{item_size}
-use Rattle.descriptor_parse.proofs.ReadingLemmas.{size_between}
 use Rattle.descriptor_parse.proofs.reading.read_items.Goals as goal
 
 pub returns-in_err-at-clause-refused : goal.returns-in_err-at-clause-refused
@@ -9,12 +6,9 @@ returns-in_err-at-clause-refused c =
     let p = err_from_is_err_and c.from_residual.result c.from_residual.ensures.1 in
     rw (p.1, p.2) (λ text a.
     c.in_err-at.ensures.refused text c.loop-item.rest.now c.loop-item.at (c.loop-item.invariant text a)
-    (record { whole = c.in-Some.ensures.size; is = c.in-Some.ensures.item })
-    (size_between c.loop-item.rest.now c.in-Some.after.now c.in-Some.ensures.rest c.in-Some.ensures.size))
+    (record { whole = c.in-Some.ensures.size; is = c.in-Some.ensures.item }) c.in-Some.ensures.taken)
 
 pub loop-item-preserved : goal.loop-item-preserved
 loop-item-preserved c = λ text a.
-    let size : length c.loop-item.rest.now - length c.in-Some.after.now ≡ item_size c.loop-item.rest.now =
-    size_between c.loop-item.rest.now c.in-Some.after.now c.in-Some.ensures.rest c.in-Some.ensures.size in
-    rw (c.in-Some.ensures.rest, ← size) (c.in_ok-at.ensures.taken text c.loop-item.rest.now c.loop-item.at (c.loop-item.invariant text a)
-    (record { whole = c.in-Some.ensures.size; is = c.in-Some.ensures.item }) size)
+    rw (c.in-Some.ensures.rest, ← c.in-Some.ensures.taken) (c.in_ok-at.ensures.taken text c.loop-item.rest.now c.loop-item.at (c.loop-item.invariant text a)
+    (record { whole = c.in-Some.ensures.size; is = c.in-Some.ensures.item }) c.in-Some.ensures.taken)

@@ -2,10 +2,10 @@ use Rattle.std.proofs.Common.{ℕ, List, [], arith}
 use Rattle.std.proofs.lemmas.List.{append-nil}
 use Rattle.std.proofs.lemmas.Result.{err_from_is_err_and}
 use Rattle.descriptor_parse.specs.declared.state.State.{State}
-use Rattle.descriptor_parse.specs.Parse.{Answers, Refuses}
+use Rattle.descriptor_parse.specs.Parse.{Refuses}
 use Rattle.descriptor_parse.specs.representation.Fed.{IsAt}
 use Rattle.descriptor_parse.specs.representation.StateRefines.{StateRefines}
-use Rattle.descriptor_parse.proofs.ReadingLemmas.{at_start, at_more, answers_faultless, answers_described, answers_first, answers_memory}
+use Rattle.descriptor_parse.proofs.ReadingLemmas.{at_start, at_more, ends_well, ends_known, ends_counted, ends_linkable}
 use Rattle.descriptor_parse.proofs.text.parse.Goals as goal
 
 -- nothing of the text is read
@@ -26,21 +26,31 @@ returns-in_err-offset-clause-memory c =
     (rw (append-nil c.args.text.now) at (c.in_err-offset.ensures.refused c.args.text.now (begins c.args.text.now c.new-state.result c.new-state.ensures) [])) in
     rw (p.1, p.2) refuses.memory
 
-pub end-requires-clause-read : goal.end-requires-clause-read
-end-requires-clause-read c =
-    ∣ (c.args.text.now, (λ i. omega (arith, c.type_inv.text i)), c.in_ok-offset.ensures.read c.args.text.now (begins c.args.text.now c.new-state.result c.new-state.ensures)) ∣₁
+pub returns-in-Some-clause-first : goal.returns-in-Some-clause-first
+returns-in-Some-clause-first c =
+    let refuses : Refuses c.args.text.now c.in-Some.error = c.in-Some.ensures.refused c.args.text.now (c.in_ok-offset.ensures.read c.args.text.now (begins c.args.text.now c.new-state.result c.new-state.ensures)) in
+    refuses.first
 
-answers : (c : goal.After-end) → Answers c.args.text.now c.end.result
-answers c = c.end.ensures c.args.text.now (c.in_ok-offset.ensures.read c.args.text.now (begins c.args.text.now c.new-state.result c.new-state.ensures))
+pub returns-in-Some-clause-memory : goal.returns-in-Some-clause-memory
+returns-in-Some-clause-memory c =
+    let refuses : Refuses c.args.text.now c.in-Some.error = c.in-Some.ensures.refused c.args.text.now (c.in_ok-offset.ensures.read c.args.text.now (begins c.args.text.now c.new-state.result c.new-state.ensures)) in
+    refuses.memory
+
+pub new-requires-clause-known : goal.new-requires-clause-known
+new-requires-clause-known c = rw c.into_reports.ensures (∣ (ends_known c.args.text.now _ _ _ (λ i. omega (arith, c.type_inv.text i))
+    (c.in_ok-offset.ensures.read c.args.text.now (begins c.args.text.now c.new-state.result c.new-state.ensures)) c.in_default.ensures.whole c.in_default.ensures.closed) ∣₁)
+
+pub new-requires-clause-counted : goal.new-requires-clause-counted
+new-requires-clause-counted c = rw c.into_reports.ensures (∣ (ends_counted c.args.text.now _ _ _ (λ i. omega (arith, c.type_inv.text i))
+    (c.in_ok-offset.ensures.read c.args.text.now (begins c.args.text.now c.new-state.result c.new-state.ensures)) c.in_default.ensures.whole c.in_default.ensures.closed) ∣₁)
+
+pub new-requires-clause-linkable : goal.new-requires-clause-linkable
+new-requires-clause-linkable c = rw c.into_reports.ensures (ends_linkable c.args.text.now _ _ _ (λ i. omega (arith, c.type_inv.text i))
+    (c.in_ok-offset.ensures.read c.args.text.now (begins c.args.text.now c.new-state.result c.new-state.ensures)) c.in_default.ensures.whole c.in_default.ensures.closed)
 
 pub returns-clause-faultless : goal.returns-clause-faultless
-returns-clause-faultless c = answers_faultless c.args.text.now c.end.result (answers c)
+returns-clause-faultless c = (ends_well c.args.text.now _ _ _ (c.in_ok-offset.ensures.read c.args.text.now (begins c.args.text.now c.new-state.result c.new-state.ensures)) c.in_default.ensures.whole c.in_default.ensures.closed).0
 
 pub returns-clause-described : goal.returns-clause-described
-returns-clause-described c = answers_described c.args.text.now c.end.result (answers c)
-
-pub returns-clause-first : goal.returns-clause-first
-returns-clause-first c = answers_first c.args.text.now c.end.result (answers c)
-
-pub returns-clause-memory : goal.returns-clause-memory
-returns-clause-memory c = answers_memory c.args.text.now c.end.result (answers c)
+returns-clause-described c = rw (c.new.ensures, c.into_reports.ensures)
+    ((ends_well c.args.text.now _ _ _ (c.in_ok-offset.ensures.read c.args.text.now (begins c.args.text.now c.new-state.result c.new-state.ensures)) c.in_default.ensures.whole c.in_default.ensures.closed).1)

@@ -5,6 +5,7 @@ use crate::parts::field_details::applications::Applications;
 use crate::parts::field_details::around::{Around, application_of};
 use crate::parts::field_details::collection::Collection;
 use crate::parts::field_details::detail::Detail;
+use crate::parts::field_details::names::Names;
 use crate::parts::field_details::placed::{PlacedFields, Question};
 use crate::parts::field_details::report::{Reports, ReportsOf};
 use wuzhikar_reader::parts::descriptor_parse::Kind;
@@ -22,6 +23,7 @@ pub struct Details {
     pub fields: crate::rattle::Vec<Detail>,
     /// The collections, in order of declaration.
     pub collections: crate::rattle::Vec<Collection>,
+    pub(crate) names: Names,
 }
 
 impl Details {
@@ -29,6 +31,7 @@ impl Details {
         Details {
             fields: crate::rattle::vec::new(alloc),
             collections: crate::rattle::vec::new(alloc),
+            names: Names::new(alloc),
         }
     }
 
@@ -77,5 +80,28 @@ impl Details {
     /// several, as there can be data items outside of all.
     pub fn applications_of(&self, kind: Kind, id: u32) -> Applications<'_> {
         Applications::new(Some((kind, id)), &self.fields, &self.collections)
+    }
+
+    /// The strings of a data item, as ranges of string indices, first and last of each: those that the Local items since the
+    /// Main item before it declare, in order. A String Index is a range of its own, and so is a String Minimum with the Maximum
+    /// after it. A Minimum or Maximum without its other half gives none; where the Minimum is over the Maximum, both are given
+    /// as they stand (HID 1.11, 6.2.2.8). It is empty where there is no such data item.
+    pub fn strings(&self, place: usize) -> &[(u32, u32)] {
+        self.names.strings.of_field(place)
+    }
+
+    /// The designators of a data item, as [`strings`](Details::strings) gives strings: indices in the physical descriptor.
+    pub fn designators(&self, place: usize) -> &[(u32, u32)] {
+        self.names.designators.of_field(place)
+    }
+
+    /// The strings of a collection.
+    pub fn collection_strings(&self, number: usize) -> &[(u32, u32)] {
+        self.names.strings.of_collection(number)
+    }
+
+    /// The designators of a collection.
+    pub fn collection_designators(&self, number: usize) -> &[(u32, u32)] {
+        self.names.designators.of_collection(number)
     }
 }

@@ -1,12 +1,12 @@
 // Exported from crates/field_details/src/naming.rt by bin/export-rust. Edit that file instead.
-//! Strings and designators.
+//! Strings and designators, and the Local items that declare them (HID 1.11, 6.2.2.8).
 
+use wuzhikar_reader::parts::descriptor_parse::Item;
 use wuzhikar_reader::parts::descriptor_parse::number::unsigned;
-use wuzhikar_reader::parts::descriptor_parse::{Item, Items, Tag};
 
-/// What names a control for a person: a string, or a part of the body (HID 1.11, 6.2.2.8).
+/// What names a control for a person: a string, or a part of the body.
 #[derive(Clone, Copy, Debug, PartialEq, Eq)]
-pub enum Naming {
+pub(crate) enum Naming {
     /// String Index, String Minimum and String Maximum: numbers of string descriptors.
     Strings,
     /// Designator Index, Designator Minimum and Designator Maximum: numbers in the physical descriptor.
@@ -39,64 +39,8 @@ impl Naming {
     }
 }
 
-/// Strings or designators, first and last of each range.
-#[derive(Debug)]
-pub struct NamedRanges<'a> {
-    naming: Naming,
-    items: Items<'a>,
-    /// How many of the items are left.
-    left: usize,
-    /// The Minimum that waits for a Maximum.
-    least: Option<u32>,
-}
-
-impl<'a> NamedRanges<'a> {
-    /// The next range, and what is left is without it; `None` past the last.
-    fn take(&mut self) -> Option<(u32, u32)> {
-        while self.left > 0 {
-            let item = match self.items.next() {
-                Some(Ok(item)) => item,
-                Some(Err(_)) => {
-                    self.left = 0;
-                    return None;
-                }
-                None => return None,
-            };
-            let range = range_of(self.naming, &item, self.least);
-            self.left -= 1;
-            self.least = least_after(self.naming, &item, self.least);
-            if range.is_some() {
-                return range;
-            }
-        }
-        None
-    }
-}
-
-impl<'a> Iterator for NamedRanges<'a> {
-    type Item = (u32, u32);
-
-    fn next(&mut self) -> Option<(u32, u32)> {
-        self.take()
-    }
-}
-
-/// The strings or designators that the Local items before the Main item at `offset` give it, in order, first and last of each
-/// range: an Index alone, and a Minimum with the Maximum after it. A Minimum or Maximum without its other half gives none;
-/// where the Minimum is over the Maximum, both are given as they stand, and no number is in the range.
-pub fn namings(text: &[u8], offset: usize, naming: Naming) -> NamedRanges<'_> {
-    let (begin, left) = local_part(text, offset);
-    let (_, part) = text.split_at(begin);
-    NamedRanges {
-        naming,
-        items: Items::new(part),
-        left,
-        least: None,
-    }
-}
-
 /// The range that an item makes, where this Minimum waits.
-fn range_of(naming: Naming, item: &Item<'_>, least: Option<u32>) -> Option<(u32, u32)> {
+pub(crate) fn range_of(naming: Naming, item: &Item<'_>, least: Option<u32>) -> Option<(u32, u32)> {
     let prefix = item.prefix - item.prefix % 4;
     if prefix == naming.index() {
         let number = unsigned(item.bytes);
@@ -112,7 +56,7 @@ fn range_of(naming: Naming, item: &Item<'_>, least: Option<u32>) -> Option<(u32,
 }
 
 /// The Minimum that waits after an item.
-fn least_after(naming: Naming, item: &Item<'_>, least: Option<u32>) -> Option<u32> {
+pub(crate) fn least_after(naming: Naming, item: &Item<'_>, least: Option<u32>) -> Option<u32> {
     let prefix = item.prefix - item.prefix % 4;
     if prefix == naming.minimum() {
         return Some(unsigned(item.bytes));
@@ -121,30 +65,5 @@ fn least_after(naming: Naming, item: &Item<'_>, least: Option<u32>) -> Option<u3
         None
     } else {
         least
-    }
-}
-
-/// Where those of the items before an offset begin that come after the last Main item among them, and how many they are.
-fn local_part(text: &[u8], offset: usize) -> (usize, usize) {
-    let mut part = (0, 0);
-    for each in Items::new(text) {
-        match each {
-            Ok(item) => {
-                if item.offset >= offset {
-                    return part;
-                }
-                part = part_after(&item, part);
-            }
-            Err(_) => return part,
-        }
-    }
-    part
-}
-
-/// The same after one more item.
-fn part_after(item: &Item<'_>, part: (usize, usize)) -> (usize, usize) {
-    match item.tag() {
-        Tag::Main(_) => (item.offset + 1 + item.bytes.len(), 0),
-        _ => (part.0, part.1 + 1),
     }
 }

@@ -5,6 +5,7 @@ use crate::parts::field_details::collection::Collection;
 use crate::parts::field_details::detail::Detail;
 use crate::parts::field_details::details::Details;
 use crate::parts::field_details::extents::{Extents, take_global, take_skipped};
+use crate::parts::field_details::pending::AllPending;
 use wuzhikar_reader::parts::descriptor_parse::beside::Beside;
 use wuzhikar_reader::parts::descriptor_parse::globals::Globals;
 use wuzhikar_reader::parts::descriptor_parse::number::unsigned;
@@ -21,6 +22,7 @@ pub(crate) struct Walk {
     pub(crate) usage: Option<Usage>,
     /// The numbers of the collections that are open, outermost first.
     pub(crate) opened: crate::rattle::Vec<usize>,
+    pub(crate) pending: AllPending,
     pub(crate) reported: Details,
 }
 
@@ -30,6 +32,7 @@ impl Walk {
             extents: Stack::new(alloc, Extents::NONE),
             usage: None,
             opened: crate::rattle::vec::new(alloc),
+            pending: AllPending::new(alloc),
             reported: Details::new(alloc),
         }
     }
@@ -41,6 +44,7 @@ impl Walk {
             extents: _,
             usage: _,
             opened: _,
+            pending: _,
         } = self;
         reported
     }
@@ -87,12 +91,14 @@ impl Walk {
         before: &State,
     ) -> Result<(), AllocError> {
         if !fills(before.globals()) {
-            self.usage = None;
+            self.end_locals();
             return Ok(());
         }
         let detail = self.detail(kind, offset, flags, before);
+        let place = self.reported.fields.len();
+        self.reported.names.name_field(place, &self.pending)?;
         self.reported.fields.push_in(detail)?;
-        self.usage = None;
+        self.end_locals();
         Ok(())
     }
 
@@ -123,9 +129,11 @@ impl Walk {
         before: &State,
     ) -> Result<(), AllocError> {
         let collection = self.collection(offset, kind, before);
-        self.opened.push_in(self.reported.collections.len())?;
+        let number = self.reported.collections.len();
+        self.reported.names.name_collection(number, &self.pending)?;
+        self.opened.push_in(number)?;
         self.reported.collections.push_in(collection)?;
-        self.usage = None;
+        self.end_locals();
         Ok(())
     }
 
@@ -142,7 +150,13 @@ impl Walk {
     /// Takes an End Collection item.
     fn close_collection(&mut self) {
         let _ = self.opened.pop();
+        self.end_locals();
+    }
+
+    /// Ends the Local items at a Main item.
+    fn end_locals(&mut self) {
         self.usage = None;
+        self.pending.clear();
     }
 }
 
@@ -157,7 +171,7 @@ impl Beside for Walk {
             }
             Tag::Skipped => {
                 take_skipped(&mut self.extents, item.prefix, item.bytes);
-                Ok(())
+                self.pending.take(item)
             }
         }
     }

@@ -29,6 +29,7 @@ pub struct Descriptor {
 }
 
 impl Descriptor {
+    #[inline(always)]
     pub(crate) fn new(reports: Reports) -> Descriptor {
         let mut reports = reports;
         reports.link();

@@ -63,7 +63,7 @@ impl<'a> Iterator for Items<'a> {
             return None;
         }
         match cut(self.offset, self.rest) {
-            Some((item, rest)) => {
+            Some((item, rest, _)) => {
                 self.offset += self.rest.len() - rest.len();
                 self.rest = rest;
                 Some(Ok(item))
@@ -79,9 +79,10 @@ impl<'a> Iterator for Items<'a> {
     }
 }
 
-/// The item at the front of a text that stands at `offset`, and the text after it; `None` where the text ends before it.
+/// The item at the front of a text that stands at `offset`, the text after it, and how many bytes the item takes; `None` where
+/// the text ends before it.
 #[inline(always)]
-pub(crate) fn cut(offset: usize, text: &[u8]) -> Option<(Item<'_>, &[u8])> {
+pub(crate) fn cut(offset: usize, text: &[u8]) -> Option<(Item<'_>, &[u8], usize)> {
     let Some((prefix, more)) = text.split_first() else {
         return None;
     };
@@ -97,7 +98,7 @@ pub(crate) fn cut(offset: usize, text: &[u8]) -> Option<(Item<'_>, &[u8])> {
             prefix: LONG,
             bytes: &whole[LONG_HEAD..],
         };
-        return Some((item, rest));
+        return Some((item, rest, size));
     }
     let size = data_len(*prefix);
     if more.len() < size {
@@ -109,7 +110,7 @@ pub(crate) fn cut(offset: usize, text: &[u8]) -> Option<(Item<'_>, &[u8])> {
         prefix: *prefix,
         bytes,
     };
-    Some((item, rest))
+    Some((item, rest, 1 + size))
 }
 
 /// How many bytes the item at the front of a text takes.

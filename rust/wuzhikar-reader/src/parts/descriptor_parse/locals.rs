@@ -4,9 +4,10 @@
 use crate::parts::descriptor_parse::fault::ParseFault;
 use crate::parts::descriptor_parse::tag::LocalTag;
 use crate::parts::descriptor_parse::usage::Usage;
+use crate::rattle::smallvec::SmallVec;
 use crate::rattle::alloc::{AllocError, Global};
 
-/// How many ranges there is room for at first.
+/// How many ranges there is room for without memory.
 const FIRST_RANGES: usize = 16;
 
 /// A range of usages, its first and its last.
@@ -14,6 +15,16 @@ const FIRST_RANGES: usize = 16;
 pub(crate) struct UsageRange {
     pub(crate) first: Usage,
     pub(crate) last: Usage,
+}
+
+impl Default for UsageRange {
+    /// What stands where there is none.
+    fn default() -> UsageRange {
+        UsageRange {
+            first: Usage::Short(0),
+            last: Usage::Short(0),
+        }
+    }
 }
 
 /// A Usage Minimum or Maximum that has not met its pair.
@@ -25,14 +36,14 @@ pub(crate) struct Half {
 
 /// The usages since the latest Main item, and the Minimum or Maximum that has not met its pair.
 pub(crate) struct Locals {
-    pub(crate) usages: crate::rattle::Vec<UsageRange>,
+    pub(crate) usages: SmallVec<UsageRange, FIRST_RANGES>,
     pub(crate) half: Option<Half>,
 }
 
 impl Locals {
     pub(crate) fn new(alloc: Global) -> Locals {
         Locals {
-            usages: crate::rattle::vec::new(alloc),
+            usages: SmallVec::new(alloc),
             half: None,
         }
     }
@@ -69,18 +80,8 @@ impl Locals {
     /// Adds a range.
     #[inline(always)]
     fn add(&mut self, first: Usage, last: Usage) -> Result<(), AllocError> {
-        if self.usages.capacity() == 0 {
-            self.make_room()?;
-        }
         self.usages.push_in(UsageRange { first, last })?;
         Ok(())
-    }
-
-    /// Takes memory for some ranges.
-    // Not inlined, so that the other items cost less.
-    #[inline(never)]
-    fn make_room(&mut self) -> Result<(), AllocError> {
-        self.usages.reserve_in(FIRST_RANGES)
     }
 
     /// Keeps a Minimum or Maximum, or makes it a range with its pair.
@@ -117,7 +118,7 @@ impl Locals {
         page: u16,
     ) -> Result<(), AllocError> {
         let mut count = 0;
-        for range in &self.usages {
+        for range in self.usages.as_slice() {
             let (first, last) = (range.first.on(page), range.last.on(page));
             count = count_with(count, first, last);
             ranges.push_in((first, last))?;

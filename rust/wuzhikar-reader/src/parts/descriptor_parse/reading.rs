@@ -44,7 +44,7 @@ impl Reading {
     #[inline(never)]
     fn read_kept(&mut self, piece: &[u8]) -> Result<(), ParseError> {
         let rest = fill(&mut self.part, piece);
-        let Some((item, _)) = cut(self.offset, &self.part) else {
+        let Some((item, _, _)) = cut(self.offset, &self.part) else {
             return Ok(());
         };
         self.offset = take_item(&mut self.state, &item, self.part.len())?;
@@ -75,19 +75,28 @@ impl Reading {
 
 /// Ends a text of which these bytes at an offset are left, which make no item.
 pub(crate) fn end(state: State, left: &[u8], offset: usize) -> Result<Descriptor, ParseError> {
+    if let Some(error) = end_error(&state, left, offset) {
+        return Err(error);
+    }
+    Ok(Descriptor::new(state.into_reports()))
+}
+
+/// The error of a text of which these bytes at an offset are left, which make no item; `None` if it may end there.
+#[inline(always)]
+pub(crate) fn end_error(state: &State, left: &[u8], offset: usize) -> Option<ParseError> {
     if has_bytes(left) {
-        return Err(ParseError {
+        return Some(ParseError {
             fault: ParseFault::Truncated,
             offset,
         });
     }
     if state.collections > 0 {
-        return Err(ParseError {
+        return Some(ParseError {
             fault: ParseFault::CollectionOpen,
             offset,
         });
     }
-    Ok(Descriptor::new(state.into_reports()))
+    None
 }
 
 /// Whether there are bytes of an item that is not whole.
@@ -123,8 +132,8 @@ pub(crate) fn read_items<'a>(
 ) -> Result<(usize, &'a [u8]), ParseError> {
     let mut at = offset;
     let mut rest = piece;
-    while let Some((item, after)) = cut(at, rest) {
-        at = take_item(state, &item, rest.len() - after.len())?;
+    while let Some((item, after, size)) = cut(at, rest) {
+        at = take_item(state, &item, size)?;
         rest = after;
     }
     Ok((at, rest))

@@ -58,6 +58,7 @@ impl Reports {
 }
 
 impl Reports {
+    #[inline(always)]
     pub(crate) fn new(alloc: Global) -> Reports {
         Reports {
             totals: Totals::new(alloc),
@@ -120,6 +121,7 @@ impl Reports {
     }
 
     /// Ties the fields of each report together, the last first.
+    #[inline(always)]
     pub(crate) fn link(&mut self) {
         let mut place = self.fields.len();
         while place > 0 {

@@ -34,6 +34,7 @@ pub struct State {
 }
 
 impl State {
+    #[inline(always)]
     pub(crate) fn new(alloc: Global) -> State {
         State {
             globals: Stack::new(alloc, Globals::NONE),
@@ -53,6 +54,7 @@ impl State {
         self.reports.totals.bits(kind, self.globals.now.id)
     }
 
+    #[inline(always)]
     pub(crate) fn into_reports(self) -> Reports {
         let State {
             reports,
@@ -136,9 +138,13 @@ impl State {
     pub(crate) fn step(&mut self, item: &Item<'_>) -> Result<(), ParseFault> {
         // A long item is one of those that are skipped.
         match Tag::of(item.prefix) {
+            // The compiler makes a shorter way for each kind of item that stands alone: most are of these.
+            Tag::Main(MainTag::Data(kind)) => self.step_main(
+                MainTag::Data(kind),
+                unsigned(item.bytes),
+            ),
             Tag::Main(tag) => self.step_main(tag, unsigned(item.bytes)),
             Tag::Global(tag) => self.step_global(tag, item.bytes),
-            // Most Local items are single usages: the compiler makes a shorter way for them.
             Tag::Local(LocalTag::Usage) => self.step_local(LocalTag::Usage, read_usage(item.bytes)),
             Tag::Local(tag) => self.step_local(tag, read_usage(item.bytes)),
             Tag::Skipped => Ok(()),

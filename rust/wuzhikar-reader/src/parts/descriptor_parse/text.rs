@@ -3,7 +3,7 @@
 
 use crate::parts::descriptor_parse::descriptor::Descriptor;
 use crate::parts::descriptor_parse::fault::ParseError;
-use crate::parts::descriptor_parse::reading::{end, read_items};
+use crate::parts::descriptor_parse::reading::{end_error, read_items};
 use crate::parts::descriptor_parse::state::State;
 use crate::rattle::alloc::Global;
 
@@ -16,5 +16,9 @@ pub fn parse(alloc: Global, text: &[u8]) -> Result<Descriptor, ParseError> {
     // Without a `Parser`, which keeps bytes of an item that is not whole.
     let mut state = State::new(alloc);
     let (offset, left) = read_items(&mut state, 0, text)?;
-    end(state, left, offset)
+    // Before the state is given away, which would copy it for what drops it.
+    if let Some(error) = end_error(&state, left, offset) {
+        return Err(error);
+    }
+    Ok(Descriptor::new(state.into_reports()))
 }

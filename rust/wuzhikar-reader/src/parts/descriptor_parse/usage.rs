@@ -15,6 +15,10 @@ pub enum Usage {
 /// The usage that the data of a Local item write.
 #[inline(always)]
 pub fn read_usage(bytes: &[u8]) -> Usage {
+    // Most usages have one byte.
+    if bytes.len() == 1 {
+        return Usage::Short(bytes[0] as u16);
+    }
     let number = unsigned(bytes);
     if bytes.len() == 4 {
         Usage::Whole(number)

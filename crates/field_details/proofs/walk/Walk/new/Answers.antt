@@ -7,4 +7,4 @@ use Rattle.field_details.proofs.walk.Walk.new.Goals as goal
 
 pub returns : goal.returns
 unfolding signed power_of
-returns c = refine_new _ (c.new.ensures extents_of refl) refl c.new-2.ensures.items c.new-3.ensures.fields c.new-3.ensures.collections
+returns c = refine_new _ (c.new.ensures extents_of refl) refl c.new-2.ensures.items c.new-4.ensures.fields c.new-4.ensures.collections c.new-3.ensures c.new-4.ensures.names

@@ -3,6 +3,8 @@ use Rattle.descriptor_parse.specs.ItemViews.{item_view}
 use Rattle.descriptor_parse.specs.Tags.{tag_of, is_main}
 use Rattle.descriptor_parse.specs.declared.tag.Tag.TheVariants.{Main, Global, Local, Skipped}
 use Rattle.field_details.specs.Collections.{is_usage}
+use Rattle.descriptor_parse.specs.Locals.{since_main}
+use Rattle.field_details.proofs.NameLemmas.{pending_known, pending_skipped}
 use Rattle.field_details.proofs.WalkLemmas.{refine_extents, long_skipped, on_ok}
 use Rattle.field_details.proofs.walk.WalkBeside.take.Goals as goal
 
@@ -24,7 +26,7 @@ pub returns-in-Global : goal.returns-in-Global
 returns-in-Global c =
     let e : tag_of c.args.item.now.prefix ≡ Global c.in-Global.tag = sym c.tag.ensures ∙ c.in-Global.is in
     on_ok c.take_global.result (λ taken items st s. refine_extents items (item_view c.args.item.now) c.args.self.now _ (ap is_main e) (ap is_usage e)
-    (taken items (item_view c.args.item.now) e s.extents) refl refl refl s) c.take_global.ensures
+    (taken items (item_view c.args.item.now) e s.extents) refl refl (pending_known items (item_view c.args.item.now) (Global c.in-Global.tag) c.args.self.now.pending e (λ no. cc) refl s.pending) refl s) c.take_global.ensures
 
 pub returns-in-Local : goal.returns-in-Local
 returns-in-Local c = λ items st s. c.take_local.ensures items (item_view c.args.item.now) (sym c.tag.ensures ∙ c.in-Local.is) refl s
@@ -32,5 +34,5 @@ returns-in-Local c = λ items st s. c.take_local.ensures items (item_view c.args
 pub returns-in-Skipped : goal.returns-in-Skipped
 returns-in-Skipped c =
     let e : tag_of c.args.item.now.prefix ≡ Skipped = sym c.tag.ensures ∙ c.in-Skipped.is in
-    λ items st s. refine_extents items (item_view c.args.item.now) c.args.self.now _ (ap is_main e) (ap is_usage e)
-    (c.take_skipped.ensures items (item_view c.args.item.now) e refl refl s.extents) refl refl refl s
+    on_ok c.take.result (λ taken items st s. refine_extents items (item_view c.args.item.now) c.args.self.now _ (ap is_main e) (ap is_usage e)
+    (c.take_skipped.ensures items (item_view c.args.item.now) e refl refl s.extents) refl refl (pending_skipped items (item_view c.args.item.now) c.take.new.self e (taken (since_main items) s.pending)) refl s) c.take.ensures

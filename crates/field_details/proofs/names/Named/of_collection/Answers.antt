@@ -1,0 +1,9 @@
+use Rattle.std.proofs.Common.{◌∙◌}
+use Rattle.descriptor_parse.specs.Faults.{all_items}
+use Rattle.field_details.specs.representation.Named.{names_given, is_group}
+use Rattle.field_details.proofs.NameLemmas.{collection_names_are}
+use Rattle.field_details.proofs.names.Named.of_collection.Goals as goal
+
+pub returns : goal.returns
+returns c = λ naming text r.
+    c.ranges_at.ensures (names_given is_group naming (all_items text)) (rw (c.deref.ensures.value, c.deref-2.ensures.value) r.groups) ∙ collection_names_are naming text c.args.number
