@@ -139,7 +139,10 @@ impl State {
         // A long item is one of those that are skipped.
         match Tag::of(item.prefix) {
             // The compiler makes a shorter way for each kind of item that stands alone: most are of these.
-            Tag::Main(MainTag::Data(kind)) => self.step_main(MainTag::Data(kind), unsigned(item.bytes)),
+            Tag::Main(MainTag::Data(kind)) => self.step_main(
+                MainTag::Data(kind),
+                unsigned(item.bytes),
+            ),
             Tag::Main(tag) => self.step_main(tag, unsigned(item.bytes)),
             Tag::Global(tag) => self.step_global(tag, item.bytes),
             Tag::Local(LocalTag::Usage) => self.step_local(LocalTag::Usage, read_usage(item.bytes)),
