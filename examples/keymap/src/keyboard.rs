@@ -83,8 +83,8 @@ impl std::error::Error for Error {}
 fn meaning(error: &io::Error) -> &'static str {
     match error.raw_os_error() {
         Some(EPIPE) => {
-            "the keyboard refused it (a stall has no reason on a real bus): a page of its flash is not sound, or used up, or the \
-             flash answered a fault; or this is another device. The entry is as it was"
+            "the keyboard refused it (a stall has no reason on a real bus): its keymap is locked, a page of its flash is not sound, \
+             or used up, or the flash answered a fault; or this is another device. The entry is as it was"
         }
         Some(EPROTO | ENODEV) => {
             "the keyboard went away, as when its power is cut: the entry is the old one or the new one"
