@@ -312,10 +312,11 @@ class Shown:
         for text in texts:
             told = json.loads(self.ran(f"echo {text.hex()} | bin/kbsim parse --json"))
             descriptor = plain.parse(text)
-            numbers = [[item.offset, item.bit, item.size, item.count, item.least, item.greatest, *item.physical_extents, item.exponent]
-                       for item in descriptor.declared]
+            numbers = [[item.offset, item.bit, item.size, item.count, item.least, item.greatest, *item.physical_extents, item.exponent,
+                        names_told(item.names["string"]), names_told(item.names["designator"])] for item in descriptor.declared]
             shown = [[field["offset"], field["bit"], field["size"], field["count"], *field["logical"], *field["physical"],
-                      field["unit"]["exponent"]] for field in told["fields"] if field["size"] * field["count"]]
+                      field["unit"]["exponent"], names_told(field["strings"]), names_told(field["designators"])]
+                     for field in told["fields"] if field["size"] * field["count"]]
             found += [(text.hex(), numbers, shown)] if (told["version"], shown) != (1, numbers) else []
             # Those that take no bits are among them too.
             each = [offset for offset, code, _ in plain.items(text) if code in (0x80, 0x90, 0xB0)]
@@ -343,6 +344,8 @@ class Shown:
             (f"{bytes_of} bin/kbsim read --kind feature <(echo {buffered})", "status 0, '0 ff000001=bytes:0102ff f1[0]=7' and "),
             (f"""{bytes_of} bin/kbsim read --json --kind feature <(echo {buffered}) | grep -o '"buffered":[^]]*]'""",
              """status 0, '"buffered":[{"bytes":[1,2,255]' and """),
+            (r"echo 790375009501810239048102 | bin/kbsim parse --json | tr -d ' \n' | grep -Eo '(string|designator)s.:[][0-9,]*'",
+             'status 0, \'designators":[],\nstrings":[[3,3]],\ndesignators":[[4,4]],\nstrings":[],\' and '),
             (f"echo {set_of_two} | bin/kbsim parse --lenient", "status 0, 'passed 2 at 2\ninput 0 0 8 1 0 127 variable 00010030' and "),
             (f"echo 05 | bin/kbsim read --lenient <(echo {set_of_two})", "status 0, 'passed 2 at 2\n0 00010030=5' and "),
             (f"echo {set_of_two}c0 | bin/kbsim parse --lenient", "status 1, 'passed 2 at 2\nfault parse 8 at 18' and "),

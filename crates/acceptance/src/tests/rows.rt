@@ -83,7 +83,7 @@ fn push_words(rt: &impl Abort, out: &mut Vec<u8>, words: &str) {
 
 /// Compares what is shown of a value with what a row wants.
 pub fn shows<T: Display>(rt: &impl Abort, alloc: Global, got: &T, wanted: &str, row: &str) {
-    let shown = made(rt, format!(in alloc; "{told}"));
+    let shown = made(rt, format!(in alloc; "{got}"));
     same_text(rt, shown.as_str(), wanted, row);
 }
 

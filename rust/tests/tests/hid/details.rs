@@ -72,8 +72,8 @@ fn answers(told: &Details) -> Vec<String> {
         names("designator", told.designators(place), &mut all);
     }
     for number in 0..told.collections.len() {
-        names("collection's string", told.collection_strings(number), &mut all);
-        names("collection's designator", told.collection_designators(number), &mut all);
+        names("collection string", told.collection_strings(number), &mut all);
+        names("collection designator", told.collection_designators(number), &mut all);
     }
     all
 }
@@ -87,6 +87,7 @@ const ANSWERS: &str = "
     05010902A10185017501950379058907990981029505810389099907390299049102C00906A10185019508890181028502B102A1028102C0C08102 = data 0 data 2 data 3 data 4 data 5 data 6 padding 1 input 1 bits 16 bytes 2 field 0 field 1 field 3 in 0 in 1 output 1 bits 5 bytes 1 field 2 in 0 feature 2 bits 8 bytes 1 field 4 in 1 input 2 bits 16 bytes 2 field 5 field 6 in 1 application 0 input 1 output 1 application 1 input 1 feature 2 input 2 around 0 string 5 to 5 string 7 to 9 around 0 around 0 string 9 to 7 designator 2 to 2 around 1 around 1 around 1 around 2
     750195038907890789018909990A990B81024904590649078102 = data 0 data 1 input 0 bits 6 bytes 1 field 0 field 1 string 9 to 10 designator 4 to 6
     0901A1010902A1018503750895018102C08501810285028102850181020903A1018502910285018102C0C0 = data 0 data 1 data 2 data 3 data 4 data 5 input 3 bits 8 bytes 1 field 0 in 1 input 1 bits 24 bytes 3 field 1 field 3 field 5 in 0 in 2 input 2 bits 8 bytes 1 field 2 in 0 output 2 bits 8 bytes 1 field 4 in 2 application 0 input 1 input 2 application 1 input 3 application 2 output 2 input 1 around 0 around 1 around 0 around 0 around 0 around 0 around 2 around 0 around 2
+    05017903490159020902A101790475009501810275017905A1028906C0990779088102C0 = data 0 input 0 bits 1 bytes 1 field 0 in 0 application 0 input 0 around 0 string 8 to 8 collection string 3 to 3 collection designator 1 to 2 collection string 5 to 5
 ";
 
 fn with(flags: u32, unit: u32) -> Detail {
