@@ -181,8 +181,8 @@
 //!
 //! **Exported from a proved source: what a descriptor declares, and reports that are read and written.** The fields
 //! of [`Details`], its collections, its calls, the bits, extents and units of a [`Detail`], what [`namings`] gives,
-//! the value in its unit, and all that [`Reader::read`] and [`Reader::write`] do are in the hidden module `parts`,
-//! the text of crates that are proved in Rattle (Rust with contracts), as are the fields and their usages of
+//! the value in its unit, and all that a [`Reader`] keeps, reads and writes are in the hidden module `parts`, the text
+//! of crates that are proved in Rattle (Rust with contracts), as are the fields and their usages of
 //! `wuzhikar-reader`. **All else, names included, is written by hand: tested, not proved.** Tests compare it with a
 //! program in another language over some ten thousand descriptors. Any bytes may come: nothing panics on them. Where
 //! a call says nothing of memory, it takes memory as std does.
