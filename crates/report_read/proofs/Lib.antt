@@ -5,3 +5,6 @@ pub mod Rows
 pub mod Bytes
 pub mod Kept
 pub mod Compared
+pub mod Places
+pub mod Streams
+pub mod Asked

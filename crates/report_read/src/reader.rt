@@ -1,19 +1,28 @@
 //! A kept reader.
 
-ghost use Rattle.std.specs.Prelude.{◌≡◌, ◌<◌, ◌≤◌, ℕ, [], All, IfOk, IfErr, map, length, Some, None, unwrap_or, MatchOption};
+ghost use Rattle.std.specs.Prelude.{◌≡◌, ◌<◌, ◌≤◌, ℕ, [], All, IfOk, IfErr, map, length, slice_get, option_map, Some, None, unwrap_or, MatchOption};
 ghost use Rattle.descriptor_parse.specs.declared.field.Kind.{Kind};
-ghost use Rattle.descriptor_parse.specs.Descriptor.{report_len};
+ghost use Rattle.descriptor_parse.specs.Beside.{IsRefusal};
+ghost use Rattle.descriptor_parse.specs.Descriptor.{Describes, report_len};
+ghost use Rattle.descriptor_parse.specs.Faults.{IsFaultless, all_items};
+ghost use Rattle.field_details.specs.Collections.{collections};
+ghost use Rattle.field_details.specs.Details.{details};
+ghost use Rattle.field_details.specs.representation.Asked.{placed_view};
 ghost use Rattle.host_extract.specs.Found.{id_of, bytes_of};
 ghost use Rattle.report_write.specs.Fields.{kept_fields};
+ghost use Rattle.report_read.specs.Items.{item_of, null_states_of};
 ghost use Rattle.report_read.specs.Values.{reading};
 ghost use Rattle.report_read.specs.Refusals.{refusal};
 ghost use Rattle.report_read.specs.representation.Lanes.{IsLane};
 ghost use Rattle.report_read.specs.representation.Plans.{IsPlan, ArePlans, plan_on};
 
 use crate::error::ReadingError;
+use crate::items::{null_states_of, places_of};
 use crate::lane::Lane;
 use crate::reading::Reading;
+use descriptor_parse::beside::Refusal;
 use descriptor_parse::{Descriptor, Kind};
+use field_details::{Details, Placed, parse_details};
 use report_write::kept_fields;
 use std::alloc::{AllocError, Global};
 use std::marker::Model;
@@ -37,36 +46,63 @@ pub(crate) struct Plans {
 #[derive(Drop)]
 pub struct ReportReader {
     descriptor: Descriptor,
-    /// Whether each field has Null State.
+    details: Details,
+    /// The place of each field's item among the data items.
+    places: Vec<usize>,
+    /// Whether the elements of each field can be null.
     null_states: Vec<bool>,
     /// The reports by their IDs, up to the last ID that a field has.
     by_id: Vec<Plans>,
 }
 
 impl Model for ReportReader {
+    ghost use Rattle.std.specs.Prelude.{◌≡◌};
+    ghost use Rattle.report_read.specs.Items.{places_of, null_states_of};
     ghost use Rattle.report_read.specs.Values.{ReaderValue};
     ghost use Rattle.report_read.specs.representation.Plans.{ArePlans};
 
     ghost Value = { ReaderValue };
 
-    ghost view = { λ r. record { descriptor = r.descriptor; null_states = r.null_states.items } };
+    ghost view = { λ r. record { descriptor = r.descriptor; details = r.details.fields.items; collections = r.details.collections.items } };
 
-    ghost invariant = { λ r. ArePlans r.descriptor r.null_states.items r.by_id.items };
+    ghost invariant = { λ r. ArePlans r.descriptor (null_states_of r.details.fields.items) r.by_id.items
+        × (r.places.items ≡ places_of r.details.fields.items) × (r.null_states.items ≡ null_states_of r.details.fields.items) };
 }
 
 impl ReportReader {
-    /// The reader of a descriptor; `null_states` is whether each of its fields has Null State, and one that it has no word of has
-    /// none.
-    pub fn new(
+    /// The reader of a report descriptor of at most 4,096 bytes (HID 1.11, 6.2.2).
+    ///
+    /// The error is the first fault of the text with its offset in bytes, or says that there was no memory.
+    pub fn of_text(alloc: Global, text: &[u8]) -> Result<ReportReader, Refusal>
+        ensures faultless { IfOk result (λ _. IsFaultless text.now) }
+        ensures described { IfOk result (λ r. Describes (all_items text.now) r.descriptor) }
+        ensures details { IfOk result (λ r. r.details ≡ details (all_items text.now)) }
+        ensures collections { IfOk result (λ r. r.collections ≡ collections (all_items text.now)) }
+        ensures refused { IfErr result (IsRefusal text.now) }
+    {
+        let (descriptor, details) = parse_details(alloc, text)?;
+        match ReportReader::new(alloc, descriptor, details) {
+            Ok(reader) => Ok(reader),
+            Err(_) => Err(Refusal::Memory),
+        }
+    }
+
+    /// The reader of a descriptor with its details.
+    fn new(
         alloc: Global,
         descriptor: Descriptor,
-        null_states: Vec<bool>,
+        details: Details,
     ) -> Result<ReportReader, AllocError>
-        ensures { IfOk result (λ r. r ≡ record { descriptor = descriptor; null_states = null_states.items }) }
+        ensures { IfOk result (λ r. r ≡ record { descriptor = descriptor; details = details.fields.items; collections = details.collections.items }) }
     {
+        let fields = descriptor.fields().len();
+        let places = places_of(alloc, &details, fields)?;
+        let null_states = null_states_of(alloc, &details, fields)?;
         let by_id = all_plans(alloc, &descriptor, &null_states)?;
         Ok(ReportReader {
             descriptor,
+            details,
+            places,
             null_states,
             by_id,
         })
@@ -80,9 +116,29 @@ impl ReportReader {
         &self.descriptor
     }
 
-    /// Whether each field has Null State, by its place among the descriptor's.
+    /// The details: all data items, padding among them, and the collections.
+    pub fn details(&self) -> &Details
+        ensures fields { result.now.fields.items ≡ self.now.details }
+        ensures collections { result.now.collections.items ≡ self.now.collections }
+    {
+        &self.details
+    }
+
+    /// The item of a field with its place among the data items, by the field's place in `Descriptor::fields`; `None` where there is
+    /// no such field.
+    #[inline]
+    pub fn placed(&self, field: usize) -> Option<Placed<'_>>
+        ensures { option_map placed_view result ≡ item_of self.now.details field }
+    {
+        match self.places.get(field) {
+            Some(place) => item_at(&self.details, *place),
+            None => None,
+        }
+    }
+
+    /// Whether the elements of each field can be null, by its place in `Descriptor::fields`.
     pub fn null_states(&self) -> &[bool]
-        ensures { result.now ≡ self.now.null_states }
+        ensures { result.now ≡ null_states_of self.now.details }
     {
         &self.null_states
     }
@@ -117,7 +173,7 @@ impl ReportReader {
     #[inline(always)]
     fn plan(&self, kind: Kind, id: u8) -> (usize, &[Lane])
         ensures len { result.0 ≡ unwrap_or (report_len self.now.descriptor kind id) 0 }
-        ensures fields { 0 < result.0 → map (λ lane. lane.kept) result.1.now ≡ kept_fields self.now.descriptor self.now.null_states kind id }
+        ensures fields { 0 < result.0 → map (λ lane. lane.kept) result.1.now ≡ kept_fields self.now.descriptor (null_states_of self.now.details) kind id }
         ensures lanes { All (IsLane self.now.descriptor) result.1.now }
     {
         match self.by_id.get(id as usize) {
@@ -131,9 +187,20 @@ impl ReportReader {
     }
 }
 
+/// The data item at a place.
+#[inline]
+fn item_at(details: &Details, place: usize) -> Option<Placed<'_>>
+    ensures { option_map placed_view result ≡ option_map (λ detail. (place, detail)) (slice_get details.now.fields.items place) }
+{
+    match details.fields.get(place) {
+        Some(detail) => Some(Placed { place, detail }),
+        None => None,
+    }
+}
+
 /// The ID of a report, 0 where none is used, and the bytes after it.
 #[inline(always)]
-fn split<'a>(descriptor: &Descriptor, report: &'a [u8]) -> (u8, &'a [u8])
+pub(crate) fn split<'a>(descriptor: &Descriptor, report: &'a [u8]) -> (u8, &'a [u8])
     ensures id { result.0 ≡ id_of descriptor.now report.now }
     ensures bytes { result.1.now ≡ bytes_of descriptor.now report.now }
 {

@@ -226,7 +226,7 @@
 //!
 //! - the fields of [`Details`], its collections and its calls; the bits, extents and units of a [`Detail`]
 //! - the value in its unit
-//! - all that [`Reader::read`] and [`Reader::write`] do
+//! - all that a [`Reader`] keeps, reads and writes
 //!
 //! **All else, names included, is written by hand: tested, not proved.** Tests compare it with a program in another
 //! language over some ten thousand descriptors. Any bytes may come: nothing panics on them. A call that says nothing of

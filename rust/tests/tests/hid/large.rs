@@ -1,6 +1,6 @@
 //! Reports as large as the limits let them be: 256 fields of 1,024 places of 32 bits, a mebibyte.
 
-use wuzhikar_hid::{Asked, Kind, Reader, Setting, Target, WriteError};
+use wuzhikar_hid::{Asked, Kind, Reader, ReadingError, Setting, Target, WriteError};
 
 fn reader(start: &[u8], again: &[u8], times: usize, end: &[u8]) -> Reader {
     Reader::new(&[start, &again.repeat(times), end].concat()).expect("a descriptor")
@@ -120,4 +120,20 @@ fn changes_of_256_arrays() {
     let all: Vec<u8> = (0..=255).collect();
     let changed = reader.changes(Kind::Input, &all, &[0; 256]).expect("changes");
     assert_eq!((changed.pressed.len(), changed.released), (0, (0x7_0001..=0x7_00FF).collect()));
+}
+
+/// The last of 256 fields of 1,024 places of 32 bits, as Buffered Bytes behind a bit of padding: 4,096 bytes over two bytes each.
+#[test]
+fn buffered_bytes_of_1024_places() {
+    let padding = [0x85, 0xFF, 0x75, 0x01, 0x95, 0x01, 0xB1, 0x03];
+    let start = [&padding[..], &[0x05, 0x01, 0x15, 0x00, 0x27, 0xFF, 0xFF, 0xFF, 0x7F, 0x75, 0x20, 0x96, 0x00, 0x04]].concat();
+    let reader = reader(&start, &[0x09, 0x30, 0xB2, 0x02, 0x01], 256, &[]);
+    let mut report: Vec<u8> = (0..(1u64 << 20) + 2).map(|at| (at * at >> 7) as u8).collect();
+    report[0] = 255;
+    let last = &report[1 + 255 * 4_096..];
+    let wanted: Vec<u8> = last.windows(2).map(|two| two[0] >> 1 | two[1] << 7).collect();
+    assert_eq!(reader.buffered(Kind::Feature, &report, 255).as_ref(), Ok(&wanted));
+    assert_eq!(wanted.len(), 4_096);
+    assert_eq!(reader.buffered(Kind::Feature, &report, 256), Err(ReadingError::NoSuchField));
+    assert_eq!(reader.buffered(Kind::Feature, &report[1..], 256), Err(ReadingError::UnknownReport));
 }

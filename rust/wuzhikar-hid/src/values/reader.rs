@@ -1,21 +1,16 @@
-//! A kept reader, and what is kept beside the proved one. Written by hand: tested, not proved.
+//! A kept reader: the calls of the proved one. Written by hand.
 
-use crate::parts::field_details::parse_details;
 use crate::parts::report_read::{self, ReportReader};
 use crate::{Changed, Details, Placed, Reading, ReadingError};
 use alloc::vec::Vec;
 use core::fmt;
 use wuzhikar_reader::parts::descriptor_parse::beside::Refusal;
-use wuzhikar_reader::parts::host_extract::number_at;
 use wuzhikar_reader::{Descriptor, Kind, ParseError};
 
 /// A reader of reports that is made once of a report descriptor. The [root of the crate](crate) shows it in drivers.
 #[derive(Clone, Debug)]
 pub struct Reader {
     reports: ReportReader,
-    details: Details,
-    /// The place of each field in `Details::fields`.
-    places: Vec<usize>,
 }
 
 /// Why there is no reader of a text.
@@ -68,16 +63,7 @@ impl Reader {
     /// assert_eq!(refused, ReaderError::Parse(ParseError { fault: ParseFault::CollectionOpen, offset: 2 }));
     /// ```
     pub fn new(text: &[u8]) -> Result<Reader, ReaderError> {
-        let (descriptor, details) = parse_details((), text)?;
-        let (mut places, mut null_states) = (Vec::new(), Vec::new());
-        places.try_reserve_exact(descriptor.fields().len()).map_err(|_| ReaderError::Memory)?;
-        null_states.try_reserve_exact(descriptor.fields().len()).map_err(|_| ReaderError::Memory)?;
-        for (field, placed) in descriptor.fields().iter().zip(details.data_fields()) {
-            places.push(placed.place);
-            null_states.push(!field.array && placed.detail.has_null_state());
-        }
-        let reports = ReportReader::new((), descriptor, null_states).map_err(|_| ReaderError::Memory)?;
-        Ok(Reader { reports, details, places })
+        Ok(Reader { reports: ReportReader::of_text((), text)? })
     }
 
     /// Returns the descriptor: its fields and their usages.
@@ -87,23 +73,24 @@ impl Reader {
 
     /// Returns the attributes of all data items, the collections and the reports.
     pub fn details(&self) -> &Details {
-        &self.details
+        self.reports.details()
     }
 
     /// Returns the attributes of a field, by its place in `Descriptor::fields`, as [`Value::field`](crate::Value) has it;
     /// `None` if there is no such field.
+    #[inline]
     pub fn detail(&self, field: usize) -> Option<&crate::Detail> {
-        self.details.fields.get(*self.places.get(field)?)
+        self.placed(field).map(|placed| placed.detail)
     }
 
     /// Returns the attributes of a field with its place in [`Details::fields`], where padding counts too. [`Details::around`]
     /// and [`Details::application`] take that place.
+    #[inline]
     pub fn placed(&self, field: usize) -> Option<Placed<'_>> {
-        let place = *self.places.get(field)?;
-        Some(Placed { place, detail: self.details.fields.get(place)? })
+        self.reports.placed(field)
     }
 
-    /// Whether each field has Null State, by its place in `Descriptor::fields`.
+    /// Whether the elements of each field can be null, by its place in `Descriptor::fields`.
     pub(super) fn null_states(&self) -> &[bool] {
         self.reports.null_states()
     }
@@ -161,17 +148,6 @@ impl Reader {
     /// # Ok::<(), Box<dyn std::error::Error>>(())
     /// ```
     pub fn buffered(&self, kind: Kind, report: &[u8], field: usize) -> Result<Vec<u8>, ReadingError> {
-        let id = self.read(kind, report)?.id();
-        let report = report.get(usize::from(self.descriptor().uses_ids())..).unwrap_or(&[]);
-        let is_buffered = self.detail(field).is_some_and(|detail| detail.is_buffered());
-        let of_report =
-            self.descriptor().fields().get(field).filter(|field| field.kind == kind && field.id == id && is_buffered);
-        let field = of_report.ok_or(ReadingError::NoSuchField)?;
-        let bits = u64::from(field.size) * u64::from(field.count);
-        let byte_at = |done: u64| number_at(report, field.bit + done, (bits - done).min(8) as u8) as u8;
-        let mut bytes = Vec::new();
-        bytes.try_reserve_exact(bits.div_ceil(8) as usize).map_err(|_| ReadingError::Memory)?;
-        bytes.extend((0..bits.div_ceil(8)).map(|byte| byte_at(8 * byte)));
-        Ok(bytes)
+        report_read::buffered((), &self.reports, kind, report, field)
     }
 }

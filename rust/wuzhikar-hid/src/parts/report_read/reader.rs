@@ -2,9 +2,12 @@
 //! A kept reader.
 
 use crate::parts::report_read::error::ReadingError;
+use crate::parts::report_read::items::{null_states_of, places_of};
 use crate::parts::report_read::lane::Lane;
 use crate::parts::report_read::reading::Reading;
+use wuzhikar_reader::parts::descriptor_parse::beside::Refusal;
 use wuzhikar_reader::parts::descriptor_parse::{Descriptor, Kind};
+use crate::parts::field_details::{Details, Placed, parse_details};
 use crate::parts::report_write::kept_fields;
 use crate::rattle::alloc::{AllocError, Global};
 
@@ -29,23 +32,41 @@ pub(crate) struct Plans {
 #[derive(Clone, Debug)]
 pub struct ReportReader {
     descriptor: Descriptor,
-    /// Whether each field has Null State.
+    details: Details,
+    /// The place of each field's item among the data items.
+    places: crate::rattle::Vec<usize>,
+    /// Whether the elements of each field can be null.
     null_states: crate::rattle::Vec<bool>,
     /// The reports by their IDs, up to the last ID that a field has.
     by_id: crate::rattle::Vec<Plans>,
 }
 
 impl ReportReader {
-    /// The reader of a descriptor; `null_states` is whether each of its fields has Null State, and one that it has no word of has
-    /// none.
-    pub fn new(
+    /// The reader of a report descriptor of at most 4,096 bytes (HID 1.11, 6.2.2).
+    ///
+    /// The error is the first fault of the text with its offset in bytes, or says that there was no memory.
+    pub fn of_text(alloc: Global, text: &[u8]) -> Result<ReportReader, Refusal> {
+        let (descriptor, details) = parse_details(alloc, text)?;
+        match ReportReader::new(alloc, descriptor, details) {
+            Ok(reader) => Ok(reader),
+            Err(_) => Err(Refusal::Memory),
+        }
+    }
+
+    /// The reader of a descriptor with its details.
+    fn new(
         alloc: Global,
         descriptor: Descriptor,
-        null_states: crate::rattle::Vec<bool>,
+        details: Details,
     ) -> Result<ReportReader, AllocError> {
+        let fields = descriptor.fields().len();
+        let places = places_of(alloc, &details, fields)?;
+        let null_states = null_states_of(alloc, &details, fields)?;
         let by_id = all_plans(alloc, &descriptor, &null_states)?;
         Ok(ReportReader {
             descriptor,
+            details,
+            places,
             null_states,
             by_id,
         })
@@ -57,7 +78,22 @@ impl ReportReader {
         &self.descriptor
     }
 
-    /// Whether each field has Null State, by its place among the descriptor's.
+    /// The details: all data items, padding among them, and the collections.
+    pub fn details(&self) -> &Details {
+        &self.details
+    }
+
+    /// The item of a field with its place among the data items, by the field's place in `Descriptor::fields`; `None` where there is
+    /// no such field.
+    #[inline]
+    pub fn placed(&self, field: usize) -> Option<Placed<'_>> {
+        match self.places.get(field) {
+            Some(place) => item_at(&self.details, *place),
+            None => None,
+        }
+    }
+
+    /// Whether the elements of each field can be null, by its place in `Descriptor::fields`.
     pub fn null_states(&self) -> &[bool] {
         &self.null_states
     }
@@ -98,9 +134,18 @@ impl ReportReader {
     }
 }
 
+/// The data item at a place.
+#[inline]
+fn item_at(details: &Details, place: usize) -> Option<Placed<'_>> {
+    match details.fields.get(place) {
+        Some(detail) => Some(Placed { place, detail }),
+        None => None,
+    }
+}
+
 /// The ID of a report, 0 where none is used, and the bytes after it.
 #[inline(always)]
-fn split<'a>(descriptor: &Descriptor, report: &'a [u8]) -> (u8, &'a [u8]) {
+pub(crate) fn split<'a>(descriptor: &Descriptor, report: &'a [u8]) -> (u8, &'a [u8]) {
     if !descriptor.uses_ids() {
         return (0, report);
     }
