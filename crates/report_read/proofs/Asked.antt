@@ -13,9 +13,9 @@ use Rattle.report_read.specs.Refusals.{refusal, refused_by_len}
 use Rattle.report_read.specs.Buffered.{AreBytesOf, AreBytesIn, buffered_if, buffered_field, buffered_refusal}
 
 pub field_found : (reader : ReaderValue) (kind : Kind) (report : List ℕ) (number id : ℕ) (found : Option Field) → id ≡ id_of reader.descriptor report
-    → found ≡ buffered_if kind id (says_buffered (item_of reader.details number)) (slice_get reader.descriptor.fields number)
+    → found ≡ buffered_if kind id (says_buffered (item_of reader.details.fields.items number)) (slice_get reader.descriptor.fields number)
     → buffered_field reader kind report number ≡ found
-field_found reader kind report number id found i f = sym (f ∙ ap (λ n. buffered_if kind n (says_buffered (item_of reader.details number)) (slice_get reader.descriptor.fields number)) i)
+field_found reader kind report number id found i f = sym (f ∙ ap (λ n. buffered_if kind n (says_buffered (item_of reader.details.fields.items number)) (slice_get reader.descriptor.fields number)) i)
 
 pub taken : (reader : ReaderValue) (kind : Kind) (report : List ℕ) (number : ℕ) (field : Field) → refusal reader.descriptor kind report ≡ None
     → buffered_field reader kind report number ≡ Some field → buffered_refusal reader kind report number ≡ None

@@ -55,7 +55,7 @@ long_enough d kind report id len e i l z s =
 -- what is read
 pub is_reading : (reader : ReaderValue) (kind : Kind) (report bytes rest : List ℕ) (id len : ℕ) (lanes : List Lane) (result : ReadingValue)
     → id ≡ id_of reader.descriptor report → bytes ≡ bytes_of reader.descriptor report → len ≡ unwrap_or (report_len reader.descriptor kind id) 0
-    → rest ≡ drop len report → map (λ lane. lane.kept) lanes ≡ kept_fields reader.descriptor (null_states_of reader.details) kind id
+    → rest ≡ drop len report → map (λ lane. lane.kept) lanes ≡ kept_fields reader.descriptor (null_states_of reader.details.fields.items) kind id
     → result ≡ record { id = id; rest = rest; left = values_of_lanes reader.descriptor bytes lanes } → result ≡ reading reader kind report
 unfolding reading
 is_reading reader kind report bytes rest id len lanes result i b l r k e =

@@ -30,7 +30,7 @@ buffered_if kind id says (Some field) = if is_of_report kind id field && says th
 -- the field with a number, if it is one of Buffered Bytes of a report
 abbrev pub buffered_field : ReaderValue → Kind → Bytes → ℕ → Option Field
 buffered_field reader kind report number =
-    buffered_if kind (id_of reader.descriptor report) (says_buffered (item_of reader.details number)) (slice_get reader.descriptor.fields number)
+    buffered_if kind (id_of reader.descriptor report) (says_buffered (item_of reader.details.fields.items number)) (slice_get reader.descriptor.fields number)
 
 -- the bytes of a field, if there is one
 abbrev pub AreBytesIn : Option Field → Bytes → Bytes → Type 0

@@ -4,19 +4,17 @@ use Rattle.std.specs.Prelude.{ℕ, List, map, drop, flat_map, unwrap_or}
 use Rattle.descriptor_parse.specs.declared.field.Kind.{Kind}
 use Rattle.descriptor_parse.specs.Descriptor.{DescriptorValue, ranges_at, usage_list, count_up, report_len}
 use Rattle.host_extract.specs.Found.{value_at, id_of, bytes_of}
-use Rattle.field_details.specs.declared.collection.Collection.{Collection}
-use Rattle.field_details.specs.declared.detail.Detail.{Detail}
+use Rattle.field_details.specs.declared.details.Details.{Details}
 use Rattle.field_values.specs.Values.{where_is, usage_read}
 use Rattle.report_write.specs.declared.kept.Kept.{Kept}
 use Rattle.report_write.specs.Fields.{kept_fields}
 use Rattle.report_read.specs.declared.value.Value.{Value}
 use Rattle.report_read.specs.Items.{null_states_of}
 
--- a kept reader: its descriptor, all data items, and the collections
+-- a kept reader: its descriptor, with the details
 pub record ReaderValue : Type 0 where
   pub descriptor : DescriptorValue
-  pub details : List Detail
-  pub collections : List Collection
+  pub details : Details
 
 -- a reading: the ID of the report, the bytes past its end, and the values that are left
 pub record ReadingValue : Type 0 where
@@ -40,7 +38,7 @@ values_of_field d bytes kept = map (value_of d bytes kept) (count_up 0 kept.fiel
 
 -- those of a report of a kind and ID, in the order of its fields
 abbrev pub values_of : ReaderValue → Kind → ℕ → Bytes → List Value
-values_of reader kind id bytes = flat_map (values_of_field reader.descriptor bytes) (kept_fields reader.descriptor (null_states_of reader.details) kind id)
+values_of reader kind id bytes = flat_map (values_of_field reader.descriptor bytes) (kept_fields reader.descriptor (null_states_of reader.details.fields.items) kind id)
 
 -- what is read of a report
 unfoldable pub reading : ReaderValue → Kind → Bytes → ReadingValue

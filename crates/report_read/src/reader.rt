@@ -8,6 +8,7 @@ ghost use Rattle.descriptor_parse.specs.Faults.{IsFaultless, all_items};
 ghost use Rattle.field_details.specs.Collections.{collections};
 ghost use Rattle.field_details.specs.Details.{details};
 ghost use Rattle.field_details.specs.representation.Asked.{placed_view};
+ghost use Rattle.field_details.specs.representation.Named.{TellsNames};
 ghost use Rattle.host_extract.specs.Found.{id_of, bytes_of};
 ghost use Rattle.report_write.specs.Fields.{kept_fields};
 ghost use Rattle.report_read.specs.Items.{item_of, null_states_of};
@@ -63,7 +64,7 @@ impl Model for ReportReader {
 
     ghost Value = { ReaderValue };
 
-    ghost view = { λ r. record { descriptor = r.descriptor; details = r.details.fields.items; collections = r.details.collections.items } };
+    ghost view = { λ r. record { descriptor = r.descriptor; details = r.details } };
 
     ghost invariant = { λ r. ArePlans r.descriptor (null_states_of r.details.fields.items) r.by_id.items
         × (r.places.items ≡ places_of r.details.fields.items) × (r.null_states.items ≡ null_states_of r.details.fields.items) };
@@ -76,8 +77,9 @@ impl ReportReader {
     pub fn of_text(alloc: Global, text: &[u8]) -> Result<ReportReader, Refusal>
         ensures faultless { IfOk result (λ _. IsFaultless text.now) }
         ensures described { IfOk result (λ r. Describes (all_items text.now) r.descriptor) }
-        ensures details { IfOk result (λ r. r.details ≡ details (all_items text.now)) }
-        ensures collections { IfOk result (λ r. r.collections ≡ collections (all_items text.now)) }
+        ensures details { IfOk result (λ r. r.details.fields.items ≡ details (all_items text.now)) }
+        ensures collections { IfOk result (λ r. r.details.collections.items ≡ collections (all_items text.now)) }
+        ensures names { IfOk result (λ r. TellsNames (all_items text.now) r.details) }
         ensures refused { IfErr result (IsRefusal text.now) }
     {
         let (descriptor, details) = parse_details(alloc, text)?;
@@ -93,7 +95,7 @@ impl ReportReader {
         descriptor: Descriptor,
         details: Details,
     ) -> Result<ReportReader, AllocError>
-        ensures { IfOk result (λ r. r ≡ record { descriptor = descriptor; details = details.fields.items; collections = details.collections.items }) }
+        ensures { IfOk result (λ r. r ≡ record { descriptor = descriptor; details = details }) }
     {
         let fields = descriptor.fields().len();
         let places = places_of(alloc, &details, fields)?;
@@ -116,10 +118,9 @@ impl ReportReader {
         &self.descriptor
     }
 
-    /// The details: all data items, padding among them, and the collections.
+    /// The details: all data items, padding among them, the collections, and what names them.
     pub fn details(&self) -> &Details
-        ensures fields { result.now.fields.items ≡ self.now.details }
-        ensures collections { result.now.collections.items ≡ self.now.collections }
+        ensures { result.now ≡ self.now.details }
     {
         &self.details
     }
@@ -128,7 +129,7 @@ impl ReportReader {
     /// no such field.
     #[inline]
     pub fn placed(&self, field: usize) -> Option<Placed<'_>>
-        ensures { option_map placed_view result ≡ item_of self.now.details field }
+        ensures { option_map placed_view result ≡ item_of self.now.details.fields.items field }
     {
         match self.places.get(field) {
             Some(place) => item_at(&self.details, *place),
@@ -138,7 +139,7 @@ impl ReportReader {
 
     /// Whether the elements of each field can be null, by its place in `Descriptor::fields`.
     pub fn null_states(&self) -> &[bool]
-        ensures { result.now ≡ null_states_of self.now.details }
+        ensures { result.now ≡ null_states_of self.now.details.fields.items }
     {
         &self.null_states
     }
@@ -173,7 +174,7 @@ impl ReportReader {
     #[inline(always)]
     fn plan(&self, kind: Kind, id: u8) -> (usize, &[Lane])
         ensures len { result.0 ≡ unwrap_or (report_len self.now.descriptor kind id) 0 }
-        ensures fields { 0 < result.0 → map (λ lane. lane.kept) result.1.now ≡ kept_fields self.now.descriptor (null_states_of self.now.details) kind id }
+        ensures fields { 0 < result.0 → map (λ lane. lane.kept) result.1.now ≡ kept_fields self.now.descriptor (null_states_of self.now.details.fields.items) kind id }
         ensures lanes { All (IsLane self.now.descriptor) result.1.now }
     {
         match self.by_id.get(id as usize) {

@@ -61,7 +61,7 @@ fn buffered_field(
 
 /// The field with a number, if it is one of Buffered Bytes of the report of a kind and ID.
 fn field_if(reader: &ReportReader, kind: Kind, id: u8, number: usize) -> Option<Field>
-    ensures field { result ≡ buffered_if kind id (says_buffered (item_of reader.now.details number)) (slice_get reader.now.descriptor.fields number) }
+    ensures field { result ≡ buffered_if kind id (says_buffered (item_of reader.now.details.fields.items number)) (slice_get reader.now.descriptor.fields number) }
     ensures fits { IfSome result FitsReading }
 {
     match reader.descriptor().fields().get(number) {
@@ -81,7 +81,7 @@ fn is_of_report(field: &Field, kind: Kind, id: u8) -> bool
 
 /// Whether the item of a field says Buffered Bytes.
 fn says_buffered(reader: &ReportReader, number: usize) -> bool
-    ensures { result ≡ says_buffered (item_of reader.now.details number) }
+    ensures { result ≡ says_buffered (item_of reader.now.details.fields.items number) }
 {
     match reader.placed(number) {
         Some(placed) => placed.detail.is_buffered(),

@@ -78,7 +78,7 @@ impl ReportReader {
         &self.descriptor
     }
 
-    /// The details: all data items, padding among them, and the collections.
+    /// The details: all data items, padding among them, the collections, and what names them.
     pub fn details(&self) -> &Details {
         &self.details
     }
