@@ -121,7 +121,9 @@ DETAILS = Rules(
     inlined=frozenset(("field_details", name) for name in
                       ("PlacedFields::next", "PlacedFields::take", "Applications::next", "Applications::take", "first_from", "passes",
                        "belongs", "is_of_report", "same_kind", "application_of", "inside", "outer", "less", "is_application",
-                       "PlacedFields::new", "Detail::is_constant", "Collection::is_application")),
+                       "PlacedFields::new", "Detail::is_constant", "Collection::is_application", "Walk::end_locals", "AllPending::clear",
+                       "Pending::clear", "Names::name_field", "Names::name_collection", "Named::name_field", "Named::name_collection",
+                       "AllPending::take", "Pending::take", "range_of", "least_after")),
     derives={**{("field_details", name): ("Clone", "Default", "PartialEq", "Eq") for name in ("Details", "Names", "Named")},
              ("field_details", "Part"): ("PartialEq", "Eq"), ("report_read", "Plan"): ("Clone",),
              ("report_read", "Plans"): ("Clone",), ("report_read", "ReportReader"): ("Clone", "Debug"), ("report_read", "Reading"): ("Clone",),

@@ -39,6 +39,7 @@ impl Named {
     }
 
     /// Gives the data item at a place its ranges.
+    #[inline(always)]
     fn name_field(&mut self, place: usize, own: &[(u32, u32)]) -> Result<(), AllocError> {
         if own.is_empty() {
             return Ok(());
@@ -48,6 +49,7 @@ impl Named {
     }
 
     /// Gives the collection with a number its ranges.
+    #[inline(always)]
     fn name_collection(&mut self, number: usize, own: &[(u32, u32)]) -> Result<(), AllocError> {
         if own.is_empty() {
             return Ok(());
@@ -84,6 +86,7 @@ impl Names {
     }
 
     /// Gives the data item at a place what is pending.
+    #[inline(always)]
     pub(crate) fn name_field(
         &mut self,
         place: usize,
@@ -95,6 +98,7 @@ impl Names {
     }
 
     /// Gives the collection with a number what is pending.
+    #[inline(always)]
     pub(crate) fn name_collection(
         &mut self,
         number: usize,

@@ -40,6 +40,7 @@ impl Naming {
 }
 
 /// The range that an item makes, where this Minimum waits.
+#[inline(always)]
 pub(crate) fn range_of(naming: Naming, item: &Item<'_>, least: Option<u32>) -> Option<(u32, u32)> {
     let prefix = item.prefix - item.prefix % 4;
     if prefix == naming.index() {
@@ -56,6 +57,7 @@ pub(crate) fn range_of(naming: Naming, item: &Item<'_>, least: Option<u32>) -> O
 }
 
 /// The Minimum that waits after an item.
+#[inline(always)]
 pub(crate) fn least_after(naming: Naming, item: &Item<'_>, least: Option<u32>) -> Option<u32> {
     let prefix = item.prefix - item.prefix % 4;
     if prefix == naming.minimum() {

@@ -22,6 +22,7 @@ impl Pending {
     }
 
     /// Takes a Local item, or another that the parser of fields skips.
+    #[inline(always)]
     fn take(&mut self, naming: Naming, item: &Item<'_>) -> Result<(), AllocError> {
         if let Some(range) = range_of(naming, item, self.least) {
             self.ranges.push_in(range)?;
@@ -31,6 +32,7 @@ impl Pending {
     }
 
     /// Ends them at a Main item.
+    #[inline(always)]
     fn clear(&mut self) {
         self.ranges.clear();
         self.least = None;
@@ -52,12 +54,14 @@ impl AllPending {
     }
 
     /// Takes a Local item, or another that the parser of fields skips.
+    #[inline(always)]
     pub(crate) fn take(&mut self, item: &Item<'_>) -> Result<(), AllocError> {
         self.strings.take(Naming::Strings, item)?;
         self.designators.take(Naming::Designators, item)
     }
 
     /// Ends them at a Main item.
+    #[inline(always)]
     pub(crate) fn clear(&mut self) {
         self.strings.clear();
         self.designators.clear();

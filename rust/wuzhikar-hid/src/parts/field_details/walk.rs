@@ -154,6 +154,7 @@ impl Walk {
     }
 
     /// Ends the Local items at a Main item.
+    #[inline(always)]
     fn end_locals(&mut self) {
         self.usage = None;
         self.pending.clear();
