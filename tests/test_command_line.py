@@ -5,6 +5,7 @@ built: the proved one, and that of plain Rust.
 """
 
 import fcntl
+import json
 import os
 import re
 import subprocess
@@ -198,6 +199,13 @@ class Words(Calls):
         os.write(writer, bytes(fcntl.fcntl(writer, fcntl.F_GETPIPE_SZ) - 100))
         status, _, said = self.call(["parse", "--items"], "05 01 75 08 95 01 81 00 c0", stdout=writer)
         self.assertEqual((status, said), (1, "error: the output can't be written\n"))
+
+    @unittest.skipUnless(IS_PLAIN, "the proved program prints no JSON")
+    def test_items_without_bits_at_the_end_of_the_longest_texts(self):
+        # What comes before an item of no bits, with as much as a bit of it takes, would be over 4,096 bytes.
+        for items, names in (("79 07 " * 2046, [[7, 7]] * 2046), ("05 01 " * 2046, [])):
+            status, printed, _ = self.call(["parse", "--json"], f"{items} 81 02")
+            self.assertEqual((status, [item["strings"] for item in json.loads(printed)["fields"]]), (0, [names]))
 
     def test_what_was_not_printed_is_not_explained(self):
         with open("/dev/full", "wb") as full:

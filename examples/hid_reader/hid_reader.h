@@ -97,7 +97,8 @@ typedef struct hidr_field {
     uint8_t array;    /* 1: a place holds the number of a usage, where the first has the number min. 0: a usage's value */
 } hidr_field;
 
-/* Usages as they were declared, from the first to the last: the page in the high half of each. One alone has equal ends. */
+/* Usages as they were declared, from the first to the last: the page in the high half of each. One alone has equal ends. Of
+ * hidr_strings and the calls beside it: indices of strings or of designators. */
 typedef struct hidr_range {
     uint32_t first, last;
 } hidr_range;
@@ -257,8 +258,9 @@ hidr_status hidr_applications_of(hidr_reader reader, uint8_t kind, uint8_t id, u
 hidr_status hidr_report_details(hidr_reader reader, uint8_t kind, uint8_t id, uint32_t *into, size_t room, size_t *count);
 
 /* Get the string indices and the designator indices of an item and of a collection, as ranges (HID 1.11, 6.2.2.8). A Minimum or
- * Maximum without its other half gives none; one over the other gives a range whose first number is over its last. HIDR_ABSENT
- * if there is no such item or collection. */
+ * Maximum without its other half gives none; one over the other gives a range whose first number is over its last. The indices
+ * belong to the elements in order, and the last one to all elements that are left. HIDR_ABSENT if there is no such item or
+ * collection. */
 hidr_status hidr_strings(hidr_reader reader, size_t item, hidr_range *into, size_t room, size_t *count);
 hidr_status hidr_designators(hidr_reader reader, size_t item, hidr_range *into, size_t room, size_t *count);
 hidr_status hidr_collection_strings(hidr_reader reader, size_t collection, hidr_range *into, size_t room, size_t *count);

@@ -88,50 +88,85 @@ fn fields(text: &[u8], reader: &Reader) -> Result<Vec<(Option<usize>, Json)>, Re
 /// padding in its place does; its usages are those of the Usages before it, on the page in force.
 struct Empty<'t> {
     text: &'t [u8],
-    /// The Main and Global items so far: they alone say anything of those behind the next Main item.
+    /// The items so far that say anything of those behind the next Main item: Main items that take bits, and Global items.
     before: Vec<u8>,
+    /// The Global items since the latest Main item, Push or Pop: of each tag the last one decides.
+    globals: Vec<(u8, &'t [u8])>,
     usages: Vec<u8>,
-    /// The strings and designators since the latest Main item.
-    names: Vec<u8>,
+    /// The strings and the designators since the latest Main item, and the Minimum of each that waits for a Maximum.
+    names: [(Vec<(u32, u32)>, Option<u32>); 2],
     depth: usize,
     found: Vec<(usize, Json)>,
 }
 
-impl Empty<'_> {
+impl<'t> Empty<'t> {
     /// What an item that takes no bits declares.
     fn told(&self, item: &Item<'_>, own: &[u8], globals: &Globals) -> Result<Json, ReaderError> {
         let [low, high] = globals.page.to_le_bytes();
         let (ones, page) = ([0x75, 1, 0x95, 1], [0x06, low, high]);
         let alone = parsed(&[&self.usages, &page[..], &ones, own].concat());
         let ends = vec![0xC0; self.depth];
-        let mut told = details(&[&self.before[..], &ones, &self.names, &[item.prefix & 0xFC | 1, 1], &ends].concat())?;
+        let in_force: Vec<u8> = self.globals.iter().flat_map(|(_, own)| own.iter().copied()).collect();
+        let mut told = details(&[&self.before[..], &in_force, &ones, &[item.prefix & 0xFC | 1, 1], &ends].concat())?;
         let last = told.fields.len() - 1;
         let detail = &mut told.fields[last];
         (detail.offset, detail.size, detail.count) = (item.offset, globals.size, globals.count);
         detail.flags = unsigned(item.bytes);
         let ranges = alone.as_ref().map_or(&[] as &[_], |alone| alone.ranges(0));
-        Ok(field(&told, last, ranges, None))
+        let mut shown = field(&told, last, ranges, None);
+        let [(strings, _), (designators, _)] = &self.names;
+        (shown["strings"], shown["designators"]) = (json!(strings), json!(designators));
+        Ok(shown)
+    }
+
+    /// Takes a Local item that names controls: an Index, or the Minimum and the Maximum of a range (HID 1.11, section 6.2.2.8).
+    fn name(&mut self, item: &Item<'_>) {
+        let (tag, number) = (item.prefix >> 4, unsigned(item.bytes));
+        let (ranges, least) = &mut self.names[usize::from(tag < 6)];
+        match tag {
+            3 | 7 => ranges.push((number, number)),
+            4 | 8 => *least = Some(number),
+            5 | 9 => ranges.extend(least.take().map(|least| (least, number))),
+            _ => {}
+        }
+    }
+
+    /// Keeps a Main or a Global item for the items behind it.
+    fn keep(&mut self, is_global: bool, tag: u8, own: &'t [u8]) {
+        let is_push_or_pop = tag == 10 || tag == 11;
+        if is_global && !is_push_or_pop {
+            self.globals.retain(|(other, _)| *other != tag);
+            self.globals.push((tag, own));
+            return;
+        }
+        for (_, own) in self.globals.drain(..) {
+            self.before.extend_from_slice(own);
+        }
+        self.before.extend_from_slice(own);
     }
 }
 
 impl Beside for Empty<'_> {
     fn take(&mut self, item: &Item<'_>, before: &State) -> Result<(), AllocError> {
         let (own, globals) = (&self.text[item.offset..item.offset + 1 + item.bytes.len()], before.globals());
-        match item.tag() {
+        let tag = item.tag();
+        let takes_no_bits = matches!(tag, Tag::Main(MainTag::Data(_))) && (globals.size == 0 || globals.count == 0);
+        match tag {
             Tag::Local(_) => self.usages.extend_from_slice(own),
-            Tag::Skipped if item.prefix & 0x0C == 0x08 => self.names.extend_from_slice(own),
-            Tag::Main(MainTag::Data(_)) if globals.size == 0 || globals.count == 0 => {
+            Tag::Skipped if item.prefix & 0x0C == 0x08 => self.name(item),
+            Tag::Main(_) if takes_no_bits => {
                 let told = self.told(item, own, globals).map_err(|_| AllocError)?;
                 self.found.push((item.offset, told));
             }
             _ => {}
         }
-        if let Tag::Main(_) = item.tag() {
+        if let Tag::Main(_) = tag {
             self.usages.clear();
-            self.names.clear();
+            self.names = Default::default();
         }
-        if item.prefix & 0x08 == 0 {
-            self.before.extend_from_slice(own);
+        let is_global = item.prefix & 0x0C == 0x04;
+        if is_global || matches!(tag, Tag::Main(_)) && !takes_no_bits {
+            self.keep(is_global, item.prefix >> 4, own);
         }
         self.depth = depth_behind(item, self.depth);
         Ok(())
@@ -139,7 +174,15 @@ impl Beside for Empty<'_> {
 }
 
 fn empty(text: &[u8]) -> Result<Vec<(usize, Json)>, Refusal> {
-    let mut empty = Empty { text, before: Vec::new(), usages: Vec::new(), names: Vec::new(), depth: 0, found: Vec::new() };
+    let mut empty = Empty {
+        text,
+        before: Vec::new(),
+        globals: Vec::new(),
+        usages: Vec::new(),
+        names: Default::default(),
+        depth: 0,
+        found: Vec::new(),
+    };
     parse_beside((), text, &mut empty).map(|_| empty.found)
 }
 
