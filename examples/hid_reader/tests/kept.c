@@ -256,6 +256,19 @@ static void no_units(hidr_reader r) {
     UNTOUCHED(to);
 }
 
+/* A collection with a string and a designator, and no item. */
+static void names_of_a_collection(void) {
+    static const uint8_t text[] = {0x79, 5, 0x39, 6, 0xa1, 1, 0xc0};
+    hidr_reader reader = opened(text, sizeof text);
+    hidr_range range;
+    size_t count;
+    ANSWERS(HIDR_OK, hidr_collection_strings(reader, 0, &range, 1, &count));
+    CHECK(count == 1 && range.first == 5 && range.last == 5);
+    ANSWERS(HIDR_OK, hidr_collection_designators(reader, 0, &range, 1, &count));
+    CHECK(count == 1 && range.first == 6 && range.last == 6);
+    ANSWERS(HIDR_OK, hidr_close(reader));
+}
+
 /* What is no value of a field. */
 static void no_values(hidr_reader r) {
     struct outputs to;
@@ -455,6 +468,7 @@ int main(void) {
     lengths_and_overlaps(reader);
     what_is_absent(reader);
     no_units(reader);
+    names_of_a_collection();
     no_values(reader);
     what_is_told(reader);
     what_changes(reader);
