@@ -128,7 +128,7 @@ fn buffered_bytes_of_1024_places() {
     let padding = [0x85, 0xFF, 0x75, 0x01, 0x95, 0x01, 0xB1, 0x03];
     let start = [&padding[..], &[0x05, 0x01, 0x15, 0x00, 0x27, 0xFF, 0xFF, 0xFF, 0x7F, 0x75, 0x20, 0x96, 0x00, 0x04]].concat();
     let reader = reader(&start, &[0x09, 0x30, 0xB2, 0x02, 0x01], 256, &[]);
-    let mut report: Vec<u8> = (0..(1u64 << 20) + 2).map(|at| (at * at >> 7) as u8).collect();
+    let mut report: Vec<u8> = (0..(1u64 << 20) + 2).map(|at| ((at * at) >> 7) as u8).collect();
     report[0] = 255;
     let last = &report[1 + 255 * 4_096..];
     let wanted: Vec<u8> = last.windows(2).map(|two| two[0] >> 1 | two[1] << 7).collect();
