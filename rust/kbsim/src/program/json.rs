@@ -84,6 +84,13 @@ fn fields(text: &[u8], reader: &Reader) -> Result<Vec<(Option<usize>, Json)>, Re
     Ok(placed.collect())
 }
 
+/// Strings or designators, as ranges, and the Minimum that waits for a Maximum.
+#[derive(Default)]
+struct Named {
+    ranges: Vec<(u32, u32)>,
+    least: Option<u32>,
+}
+
 /// The data items that take no bits, since their size or count is 0, each with its offset. What one declares is what one bit of
 /// padding in its place does; its usages are those of the Usages before it, on the page in force.
 struct Empty<'t> {
@@ -93,8 +100,9 @@ struct Empty<'t> {
     /// The Global items since the latest Main item, Push or Pop: of each tag the last one decides.
     globals: Vec<(u8, &'t [u8])>,
     usages: Vec<u8>,
-    /// The strings and the designators since the latest Main item, and the Minimum of each that waits for a Maximum.
-    names: [(Vec<(u32, u32)>, Option<u32>); 2],
+    /// The strings and the designators since the latest Main item.
+    strings: Named,
+    designators: Named,
     depth: usize,
     found: Vec<(usize, Json)>,
 }
@@ -114,19 +122,18 @@ impl<'t> Empty<'t> {
         detail.flags = unsigned(item.bytes);
         let ranges = alone.as_ref().map_or(&[] as &[_], |alone| alone.ranges(0));
         let mut shown = field(&told, last, ranges, None);
-        let [(strings, _), (designators, _)] = &self.names;
-        (shown["strings"], shown["designators"]) = (json!(strings), json!(designators));
+        (shown["strings"], shown["designators"]) = (json!(self.strings.ranges), json!(self.designators.ranges));
         Ok(shown)
     }
 
     /// Takes a Local item that names controls: an Index, or the Minimum and the Maximum of a range (HID 1.11, section 6.2.2.8).
     fn name(&mut self, item: &Item<'_>) {
         let (tag, number) = (item.prefix >> 4, unsigned(item.bytes));
-        let (ranges, least) = &mut self.names[usize::from(tag < 6)];
+        let named = if tag < 6 { &mut self.designators } else { &mut self.strings };
         match tag {
-            3 | 7 => ranges.push((number, number)),
-            4 | 8 => *least = Some(number),
-            5 | 9 => ranges.extend(least.take().map(|least| (least, number))),
+            3 | 7 => named.ranges.push((number, number)),
+            4 | 8 => named.least = Some(number),
+            5 | 9 => named.ranges.extend(named.least.take().map(|least| (least, number))),
             _ => {}
         }
     }
@@ -162,7 +169,7 @@ impl Beside for Empty<'_> {
         }
         if let Tag::Main(_) = tag {
             self.usages.clear();
-            self.names = Default::default();
+            (self.strings, self.designators) = Default::default();
         }
         let is_global = item.prefix & 0x0C == 0x04;
         if is_global || matches!(tag, Tag::Main(_)) && !takes_no_bits {
@@ -179,7 +186,8 @@ fn empty(text: &[u8]) -> Result<Vec<(usize, Json)>, Refusal> {
         before: Vec::new(),
         globals: Vec::new(),
         usages: Vec::new(),
-        names: Default::default(),
+        strings: Named::default(),
+        designators: Named::default(),
         depth: 0,
         found: Vec::new(),
     };
