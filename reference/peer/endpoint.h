@@ -300,7 +300,11 @@ int kb_in(uint8_t packet[KB_PACKET])
             kb.empty_ends = false;
             return 0;
         }
-        memcpy(packet, kb.data, n);
+        if (n == KB_PACKET)
+            *(struct eight *)packet = *(const struct eight *)kb.data;
+        else
+            for (unsigned i = 0; i < n; i++)
+                ((volatile uint8_t *)packet)[i] = kb.data[i];
         kb.data += n;
         kb.left -= n;
         return n;

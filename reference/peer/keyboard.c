@@ -15,7 +15,8 @@ void kb_bus_reset(void)
 
 void kb_start(void)
 {
-    memset(&kb, 0, sizeof kb);
+    for (volatile uint32_t *p = (void *)&kb; p < (uint32_t *)(&kb + 1); p++)
+        *p = 0;
     mount();
     kb_bus_reset();
 }

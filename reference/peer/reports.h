@@ -4,16 +4,22 @@
 #define REPORTS_H
 #include "keymap.h"
 
-enum { BOOT_PLACES = 6, CONSUMER_PLACES = 4, ROLL_OVER = 1 };
+enum { BOOT_PLACES = 6, CONSUMER_PLACES = 4 };
 
 static unsigned length_1(void) { return kb.boot ? LENGTH_BOOT : LENGTH_1; }
 
 static bool same(const union report *a, const union report *b)
 {
-    for (unsigned i = 0; i < sizeof a->words / sizeof a->words[0]; i++)
-        if (a->words[i] != b->words[i])
-            return false;
-    return true;
+    const uint32_t *x = a->words, *y = b->words;
+    return ((x[0] ^ y[0]) | (x[1] ^ y[1]) | (x[2] ^ y[2]) | (x[3] ^ y[3]) | (x[4] ^ y[4]) | (x[5] ^ y[5])) == 0;
+}
+
+static void clear(union report *a, uint32_t first)
+{
+    a->words[0] = first;
+    a->words[1] = a->words[2] = 0;
+    __asm__ volatile("");
+    a->words[3] = a->words[4] = a->words[5] = 0;
 }
 
 /* The boot report (HID 1.11, appendix B.1) of the keys in a report of ID 1. */
@@ -21,13 +27,14 @@ static void boot_form(union report *to, const uint8_t bits[LENGTH_1])
 {
     uint8_t *out = to->bytes;
     unsigned n = 0;
-    *to = (union report){ { 0 } };
+    clear(to, 0);
     out[0] = bits[1];
     for (unsigned i = 2; i < LENGTH_1; i++)
         for (unsigned byte = bits[i], usage = 4 + 8 * (i - 2); byte; byte >>= 1, usage++)
             if (byte & 1) {
                 if (n == BOOT_PLACES) {
-                    memset(out + 2, ROLL_OVER, BOOT_PLACES);
+                    to->words[0] = (to->words[0] & 0xffff) | 0x01010000;
+                    to->words[1] = 0x01010101;
                     return;
                 }
                 out[2 + n++] = usage;
@@ -50,12 +57,15 @@ static unsigned insert(uint16_t least[CONSUMER_PLACES], unsigned n, unsigned usa
     return n;
 }
 
-/* The wanted bytes of the keys that are down, in the form of the protocol. */
-static void want(void)
+/* The bytes of the keys that are down, in the form of the protocol. */
+static void want(union report *first, union report *second)
 {
-    union report made = { { 1 } };
+    union report made;
+    clear(&made, 1);
     uint8_t *bits = made.bytes;
-    uint16_t least[CONSUMER_PLACES] = { 0 };
+    uint16_t least[CONSUMER_PLACES];
+    for (unsigned i = 0; i < CONSUMER_PLACES; i++)
+        ((volatile uint16_t *)least)[i] = 0;
     unsigned n = 0;
     for (unsigned w = 0; w < WORDS; w++)
         for (uint32_t keys = kb.down[w]; keys; keys &= keys - 1) {
@@ -68,14 +78,12 @@ static void want(void)
                 n = insert(least, n, code - CONSUMER);
         }
     if (kb.boot)
-        boot_form(&kb.wanted1, bits);
+        boot_form(first, bits);
     else
-        kb.wanted1 = made;
-    kb.wanted2.bytes[0] = 2;
-    for (unsigned i = 0; i < CONSUMER_PLACES; i++) {
-        kb.wanted2.bytes[1 + 2 * i] = least[i];
-        kb.wanted2.bytes[2 + 2 * i] = least[i] >> 8;
-    }
+        *first = made;
+    clear(second, 2 | least[0] << 8 | (uint32_t)least[1] << 24);
+    second->words[1] = least[1] >> 8 | least[2] << 8 | (uint32_t)least[3] << 24;
+    second->words[2] = least[3] >> 8;
 }
 
 static void compare_sent(void)
@@ -96,27 +104,35 @@ static void push(const union report *report)
     *place = *report;
 }
 
+/* What is wanted in a slot from now on, which waits where it is another than before. */
+static __attribute__((noinline)) void turn_to(union report *wanted, const union report *now)
+{
+    if (same(wanted, now))
+        return;
+    *wanted = *now;
+    push(now);
+    compare_sent();
+}
+
 /* Makes the wanted bytes anew after a change of the keys, and puts what they changed into the queue. */
 static void want_anew(void)
 {
-    union report before1 = kb.wanted1, before2 = kb.wanted2;
-    want();
-    if (!same(&before1, &kb.wanted1))
-        push(&kb.wanted1);
-    if (!kb.boot && !same(&before2, &kb.wanted2))
-        push(&kb.wanted2);
-    compare_sent();
+    union report first, second;
+    want(&first, &second);
+    turn_to(&kb.wanted1, &first);
+    if (!kb.boot)
+        turn_to(&kb.wanted2, &second);
 }
 
 /* The host knows nothing: at a start, a bus reset, and where it set the protocol. */
 static void forget_sent(void)
 {
-    kb.sent1 = (union report){ { !kb.boot } };
-    kb.sent2 = (union report){ { 2 } };
+    clear(&kb.sent1, !kb.boot);
+    clear(&kb.sent2, 2);
     kb.age[0] = kb.age[1] = 0;
     kb.last = 0;
     kb.waiting = 0;
-    want();
+    want(&kb.wanted1, &kb.wanted2);
     compare_sent();
 }
 
@@ -124,7 +140,7 @@ static void forget_sent(void)
 static unsigned sent(unsigned slot, uint8_t *out, const union report *report)
 {
     unsigned length = slot ? LENGTH_2 : length_1();
-    memcpy(out, report->bytes, length);
+    *(struct whole *)out = *(const struct whole *)report;
     *(slot ? &kb.sent2 : &kb.sent1) = *report;
     kb.age[slot] = 0;
     kb.last = 1 << slot;

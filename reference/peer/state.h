@@ -5,7 +5,6 @@
 #include "flash.h"
 #include "keyboard.h"
 #include <stdbool.h>
-#include <string.h>
 
 enum {
     KEYS = 96,
@@ -20,6 +19,10 @@ enum {
 
 /* Lengths of reports in bytes, with their Report ID where they have one. The first shares its slot with the boot report. */
 enum { LENGTH_BOOT = 8, LENGTH_1 = KB_REPORT, LENGTH_2 = 9 };
+
+/* Bytes at any address. */
+struct __attribute__((packed)) eight { uint32_t words[2]; };
+struct __attribute__((packed)) whole { uint32_t words[5]; uint16_t half; uint8_t byte; };
 
 enum stage { REST, SENDING, TAKING_LEDS, TAKING_FEATURE, STATUS, WAITING, STALLED };
 

@@ -1,15 +1,12 @@
 """The tests of crates/acceptance as plain Rust: a module of a copy of kbsim, made where they are run and never committed."""
 
-import os
-import shutil
-
 import rules
-from changes import replace_once
+from changes import replaced
 from export_rust import Export, read_crates
 from items import Translator
 from lexing import after, before, find, group_end, text_at
 from rewriting import MEMORY, Rewriter
-from room import HERE, ROOT, Failed
+from room import HERE, ROOT, Failed, building
 
 # Calls of the tests that the export makes private to a crate: the file, and how the call begins.
 CALLS = [("wuzhikar/src/parts/keymap_store/store.rs", "fn work<")]
@@ -83,27 +80,23 @@ class Acceptance(Export):
             raise Failed("\n".join(self.faults))
 
 
-def folder(room):
-    """A copy of rust/ whose kbsim has the tests."""
-    copy = room.copy("acceptance", f"{ROOT}/rust")
+def folder():
+    """A copy of rust/ whose kbsim has the tests, and their module with their number."""
+    rust = f"{building.tree()}/rust"
     made = Acceptance(ROOT, rules.SIMULATOR)
     made.make()
-    for name, text in made.files.items():
-        path = f"{copy}/kbsim/{name}"
-        os.makedirs(os.path.dirname(path), exist_ok=True)
-        with open(path, "w", encoding="utf-8") as file:
-            file.write(text)
-    shutil.copyfile(f"{HERE}/acceptance.rs", f"{copy}/kbsim/src/rattle/acceptance.rs")
+    texts = {f"kbsim/{name}": text for name, text in made.files.items()}
+    texts["kbsim/src/rattle/acceptance.rs"] = read(f"{HERE}/acceptance.rs")
     for name, more in (("parts", "pub mod acceptance {\n    pub mod tests;\n}"),
                        ("rattle", "mod acceptance;\n#[cfg(test)]\npub use self::acceptance::*;")):
-        with open(f"{copy}/kbsim/src/{name}.rs", "a", encoding="utf-8") as file:
-            file.write(f"\n#[cfg(test)]\n{more}\n")
+        texts[f"kbsim/src/{name}.rs"] = f"{read(f'{rust}/kbsim/src/{name}.rs')}\n#[cfg(test)]\n{more}\n"
     for name, call in CALLS:
-        replace_once(f"{copy}/{name}", f"pub(crate) {call}", f"pub {call}")
-    return copy, "".join(made.files.values()).count("#[test]\n")
+        texts[name] = replaced(read(f"{rust}/{name}"), f"pub(crate) {call}", f"pub {call}", name)
+    building.changed("acceptance/examples/hid_driver", "examples/hid_driver", {})  # (the tests of wuzhikar-hid take its descriptors)
+    copy = building.changed("acceptance/rust", "rust", {name: text.encode() for name, text in texts.items()})
+    return copy, ("parts::acceptance", "".join(made.files.values()).count("#[test]\n"))
 
 
-def run(room, *words, name, **more):
-    """Runs all of the tests, with overflow checks."""
-    copy, count = folder(room)
-    room.tests(*words, "--lib", "-p", "kbsim", "parts::acceptance", cwd=copy, name=name, count=count, **more)
+def read(path):
+    with open(path, encoding="utf-8") as file:
+        return file.read()

@@ -1,17 +1,12 @@
-"""Compares a driver on a keyboard with `kbsim` over generated scripts. The first answer that differs is shown, and the status is 1.
+"""The answers of a driver on a keyboard to generated scripts, for a comparison with those of `kbsim`.
 
 A driver is a program that plays a script on its standard input and prints what `kbsim` prints, without what `kbsim` adds on how
-a report is read. It takes the option `--pages` of `kbsim run`; with --whole also `--image` and `--save`.
+a report is read. It takes the options `--pages`, `--image` and `--save` of `kbsim run`.
 """
 
-import argparse
 import collections
-import concurrent.futures
 import subprocess
-import sys
 import tempfile
-
-sys.dont_write_bytecode = True
 
 from scripts import Lawful, Script, image, script
 
@@ -42,11 +37,11 @@ def run_saved(command, text, begun):
             return [*lines, "flash saved nowhere"]
 
 
-def answers(command, number, whole):
-    """What a program prints of the script of this number. With `whole` every second script is of all lines of the language, and
-    every third one runs on an image, whose number is that of the script."""
-    kind_of_script = Lawful if whole and number % 2 else Script
-    if whole and number % 3 == 2:
+def answers(command, number):
+    """What a program prints of the script of this number. Every second script is of all lines of the language, and every third one
+    runs on an image, whose number is that of the script."""
+    kind_of_script = Lawful if number % 2 else Script
+    if number % 3 == 2:
         begun = image(number)
         return run_saved(command, ENTRIES + script(number, made_for(len(begun) // 4096, kind_of_script))[1], begun)
     pages, text = script(number, kind_of_script)
@@ -75,12 +70,6 @@ def difference(number, expected, printed):
     return ""
 
 
-def compare(kbsim, driver, number, whole):
-    """What both printed of a script, or the first line that differs."""
-    expected, printed = (answers(command, number, whole) for command in ([kbsim, "run"], [driver]))
-    return expected, difference(number, expected, printed)
-
-
 def kind(line):
     """What an answer is counted as."""
     word, *rest = line.split()[1:]
@@ -93,27 +82,3 @@ def counted(lists):
     """How many answers of each kind are in these lists of lines."""
     found = collections.Counter(kind(line) for lines in lists for line in lines)
     return f"{sum(found.values())} answers, none differs: " + ", ".join(f"{n} {word}" for word, n in sorted(found.items()))
-
-
-def main():
-    words = argparse.ArgumentParser(prog="compare.py", description=__doc__, formatter_class=argparse.RawDescriptionHelpFormatter)
-    words.add_argument("kbsim", metavar="KBSIM")
-    words.add_argument("driver", metavar="DRIVER")
-    words.add_argument("count", metavar="COUNT", type=int, help="how many scripts, from the one of number 0 on")
-    words.add_argument("--whole", action="store_true", help="scripts of all lines of the language too, and images")
-    given = words.parse_args()
-    lists = []
-    with concurrent.futures.ThreadPoolExecutor(4) as pool:
-        each = pool.map(lambda number: compare(given.kbsim, given.driver, number, given.whole), range(given.count))
-        for lines, why in each:
-            if why:
-                print(why)
-                pool.shutdown(cancel_futures=True)
-                return 1
-            lists.append(lines)
-    print(f"{given.count} scripts, {counted(lists)}")
-    return 0
-
-
-if __name__ == "__main__":
-    sys.exit(main())

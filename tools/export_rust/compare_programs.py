@@ -1,8 +1,8 @@
 """Compares two programs `kbsim` over scripts, report descriptors and command lines that are made from numbers.
 
 Standard output, the exit status and what stands on standard error are compared, but for the text of a help and why a command line
-is refused, which each program has from its own clap. Where one of the programs is Rattle's, it has no options of `parse`, and beside
-a fault another sentence. The first that differs is shown with the command that repeats it, and the status is 1. Each kind is counted
+is refused, which each program has from its own clap. Where one of the programs is Rattle's, it has no options of `parse`, no
+images, and beside a fault another sentence. The first that differs is shown with the command that repeats it, and the status is 1. Each kind is counted
 by what comes of it. The runs that are explained are those of scripts with `--explain`, and standard output and status are compared
 with those of the same run without it.
 """
@@ -62,15 +62,16 @@ def are_plain(programs):
 
 def is_of_plain(words):
     """Whether plain Rust alone has these words."""
-    return words[:1] == ["parse"] and any(word.startswith(("--items", "--from")) for word in words)
+    of_plain = {"parse": ("--items", "--from"), "run": ("--image", "--save")}.get("".join(words[:1]), ())
+    return any(word.startswith(option) for word in words for option in of_plain)
 
 
 def without_sentence(answer):
-    """An answer without what is said last on standard error, where it is the sentence beside a fault."""
-    status, printed, said = answer
+    """An answer without what plain Rust alone says: of an empty descriptor, and last on standard error, beside a fault."""
+    status, printed, said = *answer[:2], answer[2].replace(b"the descriptor is empty\n", b"")
     lines = said.splitlines(keepends=True)
     is_fault = status == 1 and (printed.splitlines() or [b""])[-1].startswith(b"fault")
-    return (status, printed, b"".join(lines[:-1])) if is_fault and lines and not lines[-1].startswith(b"error: ") else answer
+    return (status, printed, b"".join(lines[:-1])) if is_fault and lines and not lines[-1].startswith(b"error: ") else (status, printed, said)
 
 
 def without_texts_of_clap(answer):

@@ -39,11 +39,12 @@ def count(room, _):
     if not shutil.which("valgrind"):
         raise Skipped("there is no valgrind (Debian: valgrind)")
     texts = {len(digits) // 2: digits for digits in ("".join(text.split()) for _, text, _ in reader_steps.cases())}
-    room.cargo("build", "--release", cwd=room.over("reader", "wuzhikar-reader"))
+    room.cargo("build", "--profile", "counted", "--package", "reader", cwd=room.tree)
+    reader = room.program("reader", profile="counted")
     for length, limit in PARSES.items():
-        many, one = (instructions(room, [room.program("reader"), "parse", times], texts[length].encode() + b"\n") for times in ("11", "1"))
+        many, one = (instructions(room, [reader, "parse", times], texts[length].encode() + b"\n") for times in ("11", "1"))
         counted(f"a parse of {length} bytes", (many - one) // 10, limit)
-    kbsim = program_steps.built(room)
+    kbsim = program_steps.built()
     many, one = (instructions(room, [kbsim, "run"], b"scans 1000 0 1 2 3 4 5\n" * lines) for lines in (11, 1))
     counted("a scan of a script", (many - one) // 10_000, SCAN)
 

@@ -5,11 +5,9 @@ The variable KBSIM names a program to compare with, where it is not the proved o
 """
 
 import argparse
-import os
 import shutil
 import subprocess
 import sys
-import tempfile
 import time
 
 sys.dont_write_bytecode = True
@@ -19,7 +17,7 @@ import crate_steps
 import program_steps
 import reader_steps
 import target_steps
-from room import HERE, OLDEST, Failed, Room, Skipped, say, version_of
+from room import HERE, OLDEST, Failed, Room, Skipped, building, say, version_of
 
 from debian_crates import OF_PROGRAM, lacking  # (room adds its folder to the path)
 
@@ -36,7 +34,7 @@ def take(name, room, counts):
     except Skipped as lacks:
         say(f"skipped: {name}: {lacks}")
         return True
-    except Failed as why:
+    except (Failed, building.Wrong) as why:
         print(f"export-test: {name} FAILED: {why}", flush=True)
         say(f"alone: bin/export-test --only '{name}'")
         return False
@@ -48,7 +46,6 @@ def parse_words():
     words = argparse.ArgumentParser(prog="export-test", description=__doc__, formatter_class=argparse.RawDescriptionHelpFormatter)
     words.add_argument("--only", metavar="NAME", action="append", help="runs the step of this name alone; may come again")
     words.add_argument("--list", action="store_true", help="prints the names of the steps")
-    words.add_argument("--folder", metavar="DIR", help="builds in this folder, which stays, so that a further run is faster")
     words.add_argument("--scripts", metavar="COUNT", type=int, default=3000, help="how many scripts are compared")
     words.add_argument("--texts", metavar="COUNT", type=int, default=2000, help="how many report descriptors are compared")
     words.add_argument("--words", metavar="COUNT", type=int, default=1000, help="how many command lines are compared")
@@ -75,9 +72,8 @@ def main():
     if lacking(*OF_PROGRAM):
         say(f"skipped: everything: {lacking(*OF_PROGRAM)}")
         return 0
-    with tempfile.TemporaryDirectory() as temporary:
-        room = Room(os.path.abspath(given.folder or temporary))
-        passed = [take(name, room, given) for name in STEPS if not given.only or name in given.only]
+    room = Room()
+    passed = [take(name, room, given) for name in STEPS if not given.only or name in given.only]
     return 0 if all(passed) else 1
 
 

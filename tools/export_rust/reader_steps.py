@@ -2,7 +2,6 @@
 
 import glob
 import re
-import shutil
 
 import target_steps
 import texts
@@ -36,18 +35,11 @@ def given_to_reader(found):
     return "".join("".join(text.split()) + "\n" for _, text, _ in found).encode()
 
 
-def reader(room, words, more, target):
-    """The program over the exported reader, built."""
-    more = {"CARGO_PROFILE_RELEASE_OVERFLOW_CHECKS": "true", **more}
-    room.cargo("build", *words, cwd=room.over("reader", "wuzhikar-reader"), **more)
-    return shutil.copy(room.program("reader", target), room.path("reader-program"))
-
-
 def rows(room, _):
     """Compares the fields, or the fault, of each descriptor; the program parses it whole and in pieces."""
     found = list(cases())
-    for name, *way in target_steps.machines(room):
-        told = room.run([reader(room, *way), "lines"], given=given_to_reader(found)).decode()
+    for name, reader in target_steps.on_each(room, "reader"):
+        told = room.run([reader, "lines"], given=given_to_reader(found)).decode()
         printed = re.findall(r"(?:(?!\.$).+\n)*\.\n", told, re.M)
         if len(printed) != len(found):
             raise Failed(f"{len(found)} descriptors were given, and {len(printed)} were answered")
@@ -60,8 +52,8 @@ def rows(room, _):
 def growths(room, _):
     """Refuses each growth of the reader in turn."""
     found = list(cases()) + [("", texts.descriptor(number).hex(), "") for number in range(GENERATED)]
-    for name, *way in target_steps.machines(room):
-        told = room.run([reader(room, *way), "refused"], given=given_to_reader(found)).decode()
+    for name, reader in target_steps.on_each(room, "reader"):
+        told = room.run([reader, "refused"], given=given_to_reader(found)).decode()
         say(f"on {name}: {told.strip()}")
 
 

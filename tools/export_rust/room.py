@@ -1,4 +1,4 @@
-"""Where what is exported is built and run: a temporary folder, the ways to call cargo, and what this machine has."""
+"""Where what is exported is built and run, the ways to call cargo, and what this machine has."""
 
 import os
 import re
@@ -10,7 +10,8 @@ HERE = os.path.dirname(os.path.abspath(__file__))
 ROOT = os.path.dirname(os.path.dirname(HERE))
 sys.path[:0] = [f"{ROOT}/tools", f"{ROOT}/tests"]
 
-from debian_crates import OF_PROGRAM, environment, installed, lacking
+import building
+from debian_crates import lacking
 
 OLDEST = (1, 85)
 
@@ -46,41 +47,36 @@ def debian_sources():
     return path if os.path.isdir(f"{path}/compiler-builtins") else None
 
 
-def proptest():
-    """The variables by which cargo finds the crate proptest too."""
-    of_tests = ("proptest", "quick-error", "regex-syntax", "lazy_static")
-    lacks = lacking(*OF_PROGRAM, *of_tests)
-    if lacks:
-        raise Skipped(lacks)
-    if all(installed(crate) for crate in of_tests):
-        return {}
-    return {"CARGO_HOME": os.environ.get("CARGO_HOME", os.path.expanduser("~/.cargo")), "CARGO_NET_OFFLINE": "false"}
-
-
 class Room:
-    """A folder of work, with copies of what is committed, so that nothing is written there."""
+    """A folder of work in that of bin/test (tools/building.py), and the ways to build there."""
 
-    def __init__(self, folder):
-        self.folder = folder
-        self.environment = {**environment(folder, *OF_PROGRAM), "CARGO_TARGET_DIR": self.path("target"), "RUSTFLAGS": "-D warnings"}
-        self.rust = self.copy("rust", f"{ROOT}/rust")
+    def __init__(self, name=""):
+        self.folder, self.tree, self.environment = os.path.join(building.FOLDER, name), building.tree(), building.environment()
+        self.rust = f"{self.tree}/rust"
+        os.makedirs(self.folder, exist_ok=True)
 
     def path(self, *names):
         return os.path.join(self.folder, *names)
 
-    def copy(self, name, source):
-        """A copy of a folder without what cargo makes, in the place of an earlier one."""
-        shutil.rmtree(self.path(name), ignore_errors=True)
-        shutil.copytree(source, self.path(name), ignore=shutil.ignore_patterns("target", "Cargo.lock"))
-        return self.path(name)
+    def copy(self, folder):
+        """A copy of a folder of the tree, to be changed, in the place of an earlier one."""
+        shutil.rmtree(self.path(folder), ignore_errors=True)
+        return shutil.copytree(f"{self.tree}/{folder}", self.path(folder), ignore=shutil.ignore_patterns("Cargo.lock"))
 
-    def over(self, name, crate):
-        """A copy of a program of this folder that stands on a crate of rust/."""
-        folder = self.copy(name, os.path.join(HERE, name))
-        with open(f"{folder}/Cargo.toml", encoding="utf-8") as file:
-            text = file.read()
-        with open(f"{folder}/Cargo.toml", "w", encoding="utf-8") as file:
-            file.write(text.replace("@EXPORT@", f"{self.rust}/{crate}"))
+    def package(self, folder):
+        """A package's folder in the tree, where its crates can be had."""
+        if not os.path.exists(f"{self.tree}/{folder}/Cargo.toml"):
+            raise Skipped(f"{folder}: {lacking(*building.crates_of(f'{ROOT}/{folder}/Cargo.toml'))}")
+        return f"{self.tree}/{folder}"
+
+    def sysroot(self, target):
+        """A folder with Rust's core for a chip, by Debian's rustc."""
+        folder = f"{building.FOLDER}/sysroot-{'.'.join(map(str, version_of(DEBIAN_RUSTC)))}"
+        with building.alone():
+            if not os.path.exists(f"{folder}/{target}.made"):
+                self.run([f"{HERE}/make_core.sh", DEBIAN_RUSTC, debian_sources(), target, folder])
+                with open(f"{folder}/{target}.made", "w", encoding="utf-8"):
+                    pass
         return folder
 
     def run(self, words, cwd=None, given=None, **more):
@@ -96,17 +92,22 @@ class Room:
     def cargo(self, *words, cwd=None, **more):
         return self.run(["cargo", *words], cwd, **more)
 
-    def tests(self, *words, cwd=None, name="", count=None, **more):
-        """Runs the tests that `cargo test` finds, and says how many passed. It fails where there is none, or not this count."""
+    def tests(self, *words, cwd=None, name="", among=(), **more):
+        """Runs the tests that `cargo test` finds, and says how many passed. It fails where there is none, or among them not this
+        count of those of a module."""
         told = self.cargo("test", *words, cwd=cwd, **more).decode()
         passed = sum(map(int, re.findall(r"^test result: ok\. (\d+) passed", told, re.M)))
-        if passed == 0 or passed != (count or passed):
-            raise Failed(f"{passed} tests ran: cargo test {' '.join(words)}")
-        say(f"{name or ' '.join(words)}: {passed} tests passed")
+        if passed == 0:
+            raise Failed(f"no test ran: cargo test {' '.join(words)}")
+        for module, count in [among] if among else []:
+            found = len(re.findall(rf"^test {module}::.*\.\.\. ok$", told, re.M))
+            if found != count:
+                raise Failed(f"{found} tests of {module} ran, and there are {count}")
+        say(f"{name}: {passed} tests passed")
 
-    def program(self, name, target=""):
-        """The path of a program that was built for release."""
-        return self.path("target", target, "release", name)
+    def program(self, name, target="", profile="release"):
+        """The path of a program that was built, for release if nothing else is said."""
+        return os.path.join(self.environment["CARGO_TARGET_DIR"], target, profile, name)
 
     def compare(self, path, printed):
         """Compares what was printed with a file of the repository."""

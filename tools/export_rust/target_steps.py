@@ -4,9 +4,9 @@ import os
 import shutil
 
 import acceptance
-import crate_steps
-from room import DEBIAN_RUSTC, HERE, Failed, Skipped, debian_sources, proptest, say
-from debian_crates import REGISTRY, home
+from crate_steps import FEATURES
+from room import DEBIAN_RUSTC, Failed, Skipped, building, debian_sources, say
+from debian_crates import REGISTRY, SOURCE
 
 BARE = ("thumbv7em-none-eabi", "thumbv6m-none-eabi", "riscv32imc-unknown-none-elf")
 NARROW = "i686-unknown-linux-gnu"
@@ -41,18 +41,14 @@ def variables(room, target):
         return more
     if not debian_sources():
         return None
-    sysroot = room.path("sysroot")
-    if not os.path.isdir(f"{sysroot}/lib/rustlib/{target}"):
-        room.run([f"{HERE}/make_core.sh", DEBIAN_RUSTC, debian_sources(), target, sysroot])
-    return more | {"RUSTC": DEBIAN_RUSTC, "RUSTFLAGS": f"-D warnings --sysroot {sysroot}"}
+    return more | {"RUSTC": DEBIAN_RUSTC, "RUSTFLAGS": f"-D warnings --sysroot {room.sysroot(target)}"}
 
 
 def build_bare(room, name, target, more):
     """Builds a program for a chip, which is not to be empty, and takes no ROM for what is in RAM."""
     folder, _, least = PROGRAMS[name]
-    copy = crate_steps.example(room, folder)
     inner = "" if name == folder else f"/{name.removeprefix(folder + '_')}"
-    room.cargo("build", "--release", "--target", target, cwd=copy + inner, **more)
+    room.cargo("build", "--release", "--target", target, cwd=room.package(f"examples/{folder}{inner}"), **more)
     told = room.run(["size", room.program(name, target)]).decode().split("\n")[1]
     text, initialized = map(int, told.split()[:2])
     if text < least:
@@ -102,8 +98,8 @@ def narrow(room):
         raise Skipped(f"this rustc has no std for {NARROW} ({SOURCES})")
     if not links_narrow(room):
         raise Skipped("gcc links no programs of 32 bits (Debian: gcc-multilib)")
-    crates = home_with(room, f"{sources}/vendor")
-    return ["-Zbuild-std", *words], {"RUSTC": DEBIAN_RUSTC, "RUSTC_BOOTSTRAP": "1", **crates, **NARROW_PROFILE}
+    crates = with_those_of_std(room, f"{sources}/vendor")
+    return ["-Zbuild-std", *words, *crates], {"RUSTC": DEBIAN_RUSTC, "RUSTC_BOOTSTRAP": "1", **NARROW_PROFILE}
 
 
 def links_narrow(room):
@@ -117,35 +113,37 @@ def links_narrow(room):
     return True
 
 
-def home_with(room, vendor):
-    """A home for cargo that takes crates from Debian's registry and from those that lie beside std's source."""
+def with_those_of_std(room, vendor):
+    """Cargo's words by which it takes crates from Debian's registry and from those that lie beside std's source."""
     crates = room.path("crates")
-    os.makedirs(crates, exist_ok=True)
+    shutil.rmtree(crates, ignore_errors=True)
+    os.makedirs(crates)
     for folder in (REGISTRY, vendor):
         for name in os.listdir(folder):
             if not os.path.lexists(f"{crates}/{name}"):
                 os.symlink(f"{folder}/{name}", f"{crates}/{name}")
-    return home(room.path("cargo-narrow"), crates)
+    return ["--config", SOURCE, "--config", f'source.debian.directory="{crates}"']
 
 
-def machines(room):
-    """The ways to build for release: for this machine, and for one of 32 bits where that can be. Each is a name, the words and
-    variables of cargo, and the target."""
-    yield "this machine", ["--release"], {}, ""
+def on_each(room, name):
+    """A program of the top folder's workspace for this machine, and for one of 32 bits where that can be: the machine and the path."""
+    yield "this machine", f"{building.programs()}/{name}"
     try:
         words, more = narrow(room)
-        yield NARROW, words, more, NARROW
     except Skipped as lacks:
         say(f"skipped: {NARROW}: {lacks}")
+        return
+    room.cargo("build", *words, "--package", name, cwd=room.tree, **more)
+    yield NARROW, room.program(name, NARROW)
 
 
 def narrow_tests(room, _):
     """Runs the tests of rust/tests, of crates/acceptance and of the crates on a machine of 32 bits, with overflow checks."""
     words, more = narrow(room)
-    acceptance.run(room, *words, name=f"{NARROW}, crates/acceptance", **more)
-    room.tests(*words, cwd=f"{room.rust}/tests", name=f"{NARROW}, rust/tests", **{**proptest(), **more})
-    sim = ["--features", "sim", "-p", "wuzhikar", "-p", "wuzhikar-log"]
-    room.tests(*words, "--lib", *sim, name=f"{NARROW}, wuzhikar and wuzhikar-log", **more)
+    copy, among = acceptance.folder()
+    of_crates = ["--lib", "-p", "wuzhikar", "-p", "wuzhikar-log", "-p", "kbsim", "--features", FEATURES]
+    room.tests(*words, *of_crates, cwd=copy, name=f"{NARROW}, wuzhikar, wuzhikar-log, kbsim and crates/acceptance", among=among, **more)
+    room.tests(*words, cwd=room.package("rust/tests"), name=f"{NARROW}, rust/tests", **more)
 
 
 STEPS = {

@@ -235,5 +235,32 @@ class Whole(unittest.TestCase):
             self.assertNotEqual(made(7), made(8))
 
 
+
+class Comparison(unittest.TestCase):
+    """Two programs that are not the same are told apart by each kind of input, and by all that they answer."""
+
+    def compared(self, other, kind):
+        """The status of a comparison of `cat` with another program, and what it tells."""
+        with tempfile.TemporaryDirectory() as folder:
+            for name, text in (("one", "cat"), ("other", other)):
+                with open(f"{folder}/{name}", "w", encoding="utf-8") as file:
+                    file.write(f"#!/bin/sh\n{text}\n")
+                os.chmod(f"{folder}/{name}", 0o755)
+            words = [sys.executable, "-B", f"{HERE}/compare_programs.py", f"{folder}/one", f"{folder}/other", f"--{kind}=2"]
+            ran = subprocess.run(words, stdout=subprocess.PIPE, text=True)
+        return ran.returncode, ran.stdout
+
+    def test_differences(self):
+        changes = {"cat; exit 3": "status: 0, and 3", "cat; echo more": "standard output, line ", "cat; echo more >&2": "standard error, line 1"}
+        for kind in ("scripts", "explained", "texts", "words"):
+            self.assertEqual(self.compared("cat", kind)[0], 0)
+            for other, why in changes.items():
+                with self.subTest(f"{kind}: {other}"):
+                    status, told = self.compared(other, kind)
+                    self.assertEqual(status, 1)
+                    self.assertIn(f"{kind} 0: ", told)
+                    self.assertIn(why, told)
+
+
 if __name__ == "__main__":
     unittest.main()

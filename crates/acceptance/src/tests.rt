@@ -9,7 +9,6 @@ mod gathering;
 mod kernels;
 mod lines;
 mod parsing;
-mod poller;
 mod reading;
 mod rows;
 mod scripts;

@@ -16,12 +16,10 @@ const PAGES_WORD: &str = "2";
 const VERSION: &str = "0.2.0";
 
 const RUN_HELP: &str = "\
-Runs a script on a simulated keyboard whose flash is blank, or holds the bytes
-of a file:
+Runs a script on a simulated keyboard whose flash is blank:
 
   kbsim run FILE
   kbsim run < FILE
-  kbsim run --image OLD --save NEW FILE
   kbsim run --explain FILE
 
 A script is lines of words. Each line is events of the keyboard, or a look at
@@ -35,10 +33,6 @@ with # is a comment.
 
 Layers are 0 to 3, keys 0 to 95, slots 0 to 511; codes are 4 hex digits. The
 whole script, at most 1048576 bytes, is checked before its first line is run.
-
-An image is the bytes of a flash, 2 to 8 pages of 4096 bytes, and is read before
-the script. The file of --save is written after a run without a fault, by way of
-FILE.part beside it, and is else left as it was.
 
 With --explain standard error says in a sentence beside each answer what it
 means: the reason of a stall, the name of a request, the usages of a report, the
@@ -85,21 +79,16 @@ Exit status:
      was refused
   2  the command line was refused";
 
-const RUN_STATUS_HELP: &str = "\
+/// What stands behind the help of the whole program.
+const PROGRAM_HELP: &str = "\
+Plain Rust, which cargo builds, has more: `read` and `write` of HID reports,
+`run --image` and `--save`, and `parse` of other texts, with items and details.
+
 Exit status:
   0  all was done
   1  a fault, whose line is the last one on standard output, or the output
-     was refused, or the flash can't be saved
+     was refused
   2  the command line was refused";
-
-/// The flash that a run starts on.
-#[derive(Clone, Copy)]
-pub enum Start<'a> {
-    /// A blank flash of so many pages, 2 to 8.
-    Blank { pages: usize },
-    /// One that holds the bytes of the file with this path.
-    Image(&'a str),
-}
 
 /// What a text is read from.
 #[derive(Clone, Copy)]
@@ -113,12 +102,11 @@ pub enum Source<'a> {
 /// What the command line asks for.
 #[derive(Clone, Copy)]
 pub enum Request<'a> {
-    /// To run a script, to write the flash's bytes to the file with the path `save` after a run
-    /// without a fault, and where `explain` is set to say what each answer means.
+    /// To run a script on a blank flash of so many pages, 2 to 8, and where `explain` is set to say
+    /// what each answer means.
     Run {
-        start: Start<'a>,
+        pages: usize,
         source: Source<'a>,
-        save: Option<&'a str>,
         explain: bool,
     },
     /// To print the keyboard's descriptors.
@@ -147,23 +135,17 @@ fn asked<'a>(matches: &ArgMatches<'a>) -> Request<'a> {
         };
     }
     let run = matches.subcommand_matches("run");
-    let pages = run.and_then(|run| run.get_one::<usize>("pages"));
-    let start = match run.and_then(|run| run.get_str("image")) {
-        Some(path) => Start::Image(path),
-        None => Start::Blank {
-            pages: pages.unwrap_or(PAGES),
-        },
-    };
+    let pages = run
+        .and_then(|run| run.get_one::<usize>("pages"))
+        .unwrap_or(PAGES);
     let source = source_of(run.and_then(|run| run.get_str("file")));
-    let save = run.and_then(|run| run.get_str("save"));
     let explain = match run {
         Some(run) => run.get_flag("explain"),
         None => false,
     };
     Request::Run {
-        start,
+        pages,
         source,
-        save,
         explain,
     }
 }
@@ -185,21 +167,14 @@ fn program<'a>(alloc: Global) -> Result<Command<'a>, AllocError> {
     Command::new(alloc, "kbsim")
         .version(VERSION)
         .about("A simulated keyboard whose keymap is kept in flash")
-        .after_long_help(RUN_STATUS_HELP)
+        .after_long_help(PROGRAM_HELP)
         .subcommand_required(true)
         .bin_name("kbsim")
 }
 
 fn run<'a>(alloc: Global) -> Result<Command<'a>, AllocError> {
-    let image = image(alloc)?;
-    let args = vec![in alloc;
-        pages(alloc),
-        image,
-        save(alloc),
-        explain(alloc),
-        file(alloc),
-    ]?;
-    described(alloc, "run", "Runs a script", RUN_HELP, RUN_STATUS_HELP).args(args)
+    let args = vec![in alloc; pages(alloc), explain(alloc), file(alloc)]?;
+    described(alloc, "run", "Runs a script", RUN_HELP, STATUS_HELP).args(args)
 }
 
 fn pages<'a>(alloc: Global) -> Arg<'a> {
@@ -209,20 +184,6 @@ fn pages<'a>(alloc: Global) -> Arg<'a> {
         .help("How many pages the flash has")
         .value_parser(value_parser!(usize).range(2..=8))
         .default_value(PAGES_WORD)
-}
-
-fn image<'a>(alloc: Global) -> Result<Arg<'a>, AllocError> {
-    Arg::new(alloc, "image")
-        .long("image")
-        .value_name("FILE")
-        .help("Starts on a flash that holds the bytes of FILE")
-        .conflicts_with("pages")
-}
-
-fn save<'a>(alloc: Global) -> Arg<'a> {
-    Arg::new(alloc, "save").long("save").value_name("FILE").help(
-        "Writes the flash's bytes to FILE after a run without a fault",
-    )
 }
 
 fn explain<'a>(alloc: Global) -> Arg<'a> {

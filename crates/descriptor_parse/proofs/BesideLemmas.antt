@@ -1,15 +1,20 @@
 -- A text whose items are taken twice, by the parser and beside it.
+use Rattle.std.proofs.lemmas.Grind.{common_steps}
 use Rattle.std.proofs.Common.{◌≡◌, ℕ, ◌+◌, ◌<◌, ◌≤◌, List, [], ◌∷◌, ◌++◌, length, drop, length-drop, refl, arith, sym, ◌∙◌, ap, subst, inl, inr, append_assoc, Result, Ok, Err}
-use Rattle.std.specs.Prelude.{OnOk, false, is_err}
+use Rattle.std.specs.Prelude.{OnOk, OnErr, IsTrue, true, false, is_err}
 use Rattle.std.proofs.lemmas.Bool.{cases_lt}
 use Rattle.std.proofs.lemmas.List.{append_cancel_left}
 use Rattle.descriptor_parse.specs.declared.fault.ParseError.{ParseError}
+use Rattle.descriptor_parse.specs.declared.fault.ParseFault.{ParseFault}
 use Rattle.descriptor_parse.specs.declared.state.State.{State}
 use Rattle.descriptor_parse.specs.Items.{ItemValue, items_at, item_size}
-use Rattle.descriptor_parse.specs.Faults.{onto, all_items}
+use Rattle.descriptor_parse.specs.Tags.{tag}
+use Rattle.descriptor_parse.specs.Faults.{onto, all_items, IsFaultAtEnd}
+use Rattle.descriptor_parse.specs.Beside.{wants_beside, WantsBesideAt, MayWantBeside}
 use Rattle.descriptor_parse.specs.representation.StateRefines.{StateRefines}
 use Rattle.descriptor_parse.specs.representation.Fed.{IsAt, IsFront}
 use Rattle.descriptor_parse.proofs.ItemLemmas.{size_pos, items_more, items_short, items_none}
+use Rattle.descriptor_parse.proofs.FaultLemmas.{among_from}
 use Rattle.descriptor_parse.proofs.ReadingLemmas.{at_start, at_more, at_end}
 
 -- the whole items among these, newest first
@@ -72,5 +77,41 @@ taken_all S first now text rest offset state t short s =
 
 -- what holds where it went well
 pub went_well : {A E : Type 0} {P : Type 0} (r : Result A E) → is_err r ≡ false → OnOk r P → P
-went_well (Ok x) e p = p
-went_well (Err x) e p = cc
+went_well r h1 h2 = grind (arith, common_steps)
+
+-- what holds where it went wrong
+pub went_wrong : {A E : Type 0} {P : Type 0} (r : Result A E) → is_err r ≡ true → OnErr r P → P
+went_wrong r h1 h2 = grind (arith, common_steps)
+
+-- ---- memory that is wanted beside
+
+beside_keeps : (more : List (Result ItemValue ParseError)) (before : List ItemValue) (at : ℕ) → WantsBesideAt before at → WantsBesideAt (onto before more) at
+beside_keeps [] before at i = i
+beside_keeps (Ok item ∷ more) before at i = beside_keeps more (item ∷ before) at (inr i)
+beside_keeps (Err e ∷ more) before at i = i
+
+-- what is wrong with the whole text comes after an item that was taken
+end_after : (text : List ℕ) (offset after left : ℕ) (fault : ParseFault) (at : ℕ) → offset < after → after ≤ 4096 → after + left ≡ length text → IsFaultAtEnd text fault at → offset < at
+end_after text offset after left fault at h1 h2 h3 h4 = grind (arith, common_steps)
+
+-- an item that the parser took comes before each fault
+pub wanted_beside : {B : Type 0} (S : List ItemValue → B → Type 0) (first old : B) (text rest : List ℕ) (offset after : ℕ) (before later : State) (item : ItemValue)
+    → AreTaken S first old text rest offset before → IsFront item rest offset → IsTrue (wants_beside (tag item))
+    → IsAt text (drop (item_size rest) rest) after later → MayWantBeside text
+wanted_beside S first old text rest offset after before later item t f wants a =
+    let r = at_end text (drop (item_size rest) rest) after later a in
+    let pos : 0 < item_size rest = size_pos rest in
+    let whole : item_size rest ≤ length rest = f.whole in
+    let place : offset + length rest ≡ length text = (at_end text rest offset before t.at).place in
+    let place' : after + length (drop (item_size rest) rest) ≡ length text = r.place in
+    let next : after ≡ offset + item_size rest = omega (arith, length-drop (item_size rest) rest) in
+    let within : after ≤ 4096 = a.within in
+    let is : items_at offset rest ≡ Ok item ∷ items_at after (drop (item_size rest) rest) = rw (f.is, next) (items_more offset rest (omega arith) f.whole) in (
+      offset,
+      rw (t.items ∙ ap (onto t.before) is) (beside_keeps (items_at after (drop (item_size rest) rest)) (item ∷ t.before) offset (inl (wants, ap (λ x. x.offset) f.is))),
+      λ other at has. elim has [
+        | inl among ↦ (let above : after ≤ at = among_from (length (drop (item_size rest) rest)) after (drop (item_size rest) rest) r.before other at (omega arith) (r.faults_left other at among) in
+            inl (omega arith))
+        | inr end ↦ inl (end_after text offset after (length (drop (item_size rest) rest)) other at (omega arith) within place' end)
+      ],
+    )

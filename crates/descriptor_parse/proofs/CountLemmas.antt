@@ -1,7 +1,7 @@
 -- How many usages ranges have.
-use Rattle.std.proofs.Common.{◌≡◌, ℕ, zero, suc, ◌+◌, ◌-◌, ◌*◌, ◌/◌, ◌%◌, ◌^◌, ◌<◌, ◌≤◌, List, [], ◌∷◌, ◌++◌, append_assoc, length, take, drop, get_or, true, false, refl, arith, sym, ◌∙◌, ap, Some, None, length-append, map}
+use Rattle.std.proofs.Common.{◌≡◌, ℕ, zero, suc, ◌+◌, ◌-◌, ◌*◌, ◌/◌, ◌%◌, ◌^◌, ◌<◌, ◌≤◌, List, [], ◌∷◌, ◌++◌, append_assoc, length, take, drop, get_or, false, refl, arith, sym, ◌∙◌, ap, Some, None, length-append, map}
 use Rattle.std.specs.Prelude.{All, Option, min, unwrap_or, slice_get, slice_index, ◌==◌, if◌then◌else◌}
-use Rattle.std.proofs.lemmas.Bool.{ne_eqb, lt-ltb, le-ltb}
+use Rattle.std.proofs.lemmas.Bool.{ne_eqb, lt-ltb}
 use Rattle.std.proofs.lemmas.Option.{slice_get_past, slice_get-get_or}
 use Rattle.std.proofs.lemmas.List.{take-append-drop, take-append-le, take_all, take_more, map-append}
 use Rattle.descriptor_parse.specs.declared.field.Field.{Field}
@@ -163,12 +163,6 @@ all_counted ranges counts c =
     count_before ranges counts (length counts) c (omega (arith, c.0)) ∙ ap (λ rs. length (usage_list rs)) all
 
 -- ---- the usage of a place
-
-pub place_array : (field : Field) (usages : List ℕ) (place : ℕ) (found : Option ℕ) → field.array ≡ true → found ≡ slice_get usages place → found ≡ usage_of_place field usages place
-place_array field usages place found a e = rw a e
-
-pub place_past : (field : Field) (usages : List ℕ) (place : ℕ) → field.array ≡ false → field.count ≤ place → None ≡ usage_of_place field usages place
-place_past field usages place a l = rw (a, le-ltb place field.count l) refl
 
 pub place_within : (field : Field) (usages : List ℕ) (place all last : ℕ) (found : Option ℕ) → field.array ≡ false → place < field.count → all ≡ length usages
     → last ≡ min place (all - 1) → found ≡ slice_get usages last → found ≡ usage_of_place field usages place

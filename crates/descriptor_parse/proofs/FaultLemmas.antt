@@ -1,10 +1,11 @@
+use Rattle.std.proofs.lemmas.Grind.{common_steps}
 use Rattle.std.proofs.Common.{◌≡◌, ℕ, zero, suc, ◌+◌, ◌-◌, ◌<◌, ◌≤◌, List, [], ◌∷◌, length, drop, refl, arith, sym, ◌∙◌, ap, Bool, true, Some, None, Ok, Err, inl, inr, length-drop, ◌⊎◌}
 use Rattle.std.specs.Prelude.{Result, find, IsTrue, ◌&&◌, nat_le}
 use Rattle.std.specs.List.{list_all}
 use Rattle.std.proofs.lemmas.Bool.{cases_Bool, cases_lt, and_parts, leb-true}
 use Rattle.descriptor_parse.specs.declared.fault.ParseError.{ParseError}
 use Rattle.descriptor_parse.specs.declared.fault.ParseFault.{ParseFault}
-use Rattle.descriptor_parse.specs.declared.fault.ParseFault.TheVariants.{Truncated, Delimiter, PopEmpty, PushDeep, BadReportId, SizeTooLarge, CountTooLarge, EndWithoutCollection, CollectionDeep, UnpairedUsage, UsageInverted, LogicalInverted, TooManyFields, MixedIds, CollectionOpen, TooLong, Memory}
+use Rattle.descriptor_parse.specs.declared.fault.ParseFault.TheVariants.{Truncated, CollectionOpen, TooLong, Memory}
 use Rattle.descriptor_parse.specs.Fault.{number_of}
 use Rattle.descriptor_parse.specs.Items.{ItemValue, items_at, item_size, front_item}
 use Rattle.descriptor_parse.specs.Tags.{tag}
@@ -88,20 +89,7 @@ found_none p (first ∷ faults) other f on t =
 -- only the faults of the list show at an item
 shown_on : (before : List ItemValue) (item : ItemValue) (fault : ParseFault) → shows before item fault ≡ true → IsOn fault item_faults
 unfolding shows
-shown_on before item Delimiter t = inl refl
-shown_on before item PopEmpty t = inr (inl refl)
-shown_on before item PushDeep t = inr (inr (inl refl))
-shown_on before item BadReportId t = inr (inr (inr (inl refl)))
-shown_on before item SizeTooLarge t = inr (inr (inr (inr (inl refl))))
-shown_on before item CountTooLarge t = inr (inr (inr (inr (inr (inl refl)))))
-shown_on before item EndWithoutCollection t = inr (inr (inr (inr (inr (inr (inl refl))))))
-shown_on before item CollectionDeep t = inr (inr (inr (inr (inr (inr (inr (inl refl)))))))
-shown_on before item UnpairedUsage t = inr (inr (inr (inr (inr (inr (inr (inr (inl refl))))))))
-shown_on before item UsageInverted t = inr (inr (inr (inr (inr (inr (inr (inr (inr (inl refl)))))))))
-shown_on before item LogicalInverted t = inr (inr (inr (inr (inr (inr (inr (inr (inr (inr (inl refl))))))))))
-shown_on before item TooManyFields t = inr (inr (inr (inr (inr (inr (inr (inr (inr (inr (inr (inl refl)))))))))))
-shown_on before item MixedIds t = inr (inr (inr (inr (inr (inr (inr (inr (inr (inr (inr (inr (inl refl))))))))))))
-shown_on before item _ t = cc
+shown_on before item fault h1 = grind (arith, common_steps)
 
 pub clean : (before : List ItemValue) (item : ItemValue) → fault_at before item ≡ None → (fault : ParseFault) → IsTrue (shows before item fault) → ⊥
 unfolding fault_at
@@ -209,18 +197,12 @@ reach_more text rest after offset item old new r some whole a e none refines =
 -- where an item was reached, faults come no earlier
 ends_later : (text rest : List ℕ) (offset : ℕ) (state : State) (fault : ParseFault) (at : ℕ) → HasReached text rest offset state → 0 < length rest → offset ≤ 4096
     → IsFaultAtEnd text fault at → (offset < at) ⊎ ((offset ≡ at) × (16 ≤ number_of fault))
-ends_later text rest offset state CollectionOpen at r some l f = let place = r.place in let e : at ≡ length text = f.1 in inl (omega arith)
-ends_later text rest offset state TooLong at r some l f =
-    let e : at ≡ 4096 = f.1 in
-    elim (cases_lt offset 4096) [ inl below ↦ inl (omega arith) | inr above ↦ inr (omega arith, omega arith) ]
-ends_later text rest offset state _ at r some l f = absurd f
+ends_later text rest offset state fault at h1 h2 h3 h4 = grind (arith, common_steps)
 
 -- where an item was reached before the greatest length, faults of the whole text come later
 ends_after : (text rest : List ℕ) (offset : ℕ) (state : State) (fault : ParseFault) (at : ℕ) → HasReached text rest offset state → 0 < length rest → offset < 4096
     → IsFaultAtEnd text fault at → offset < at
-ends_after text rest offset state CollectionOpen at r some l f = let place = r.place in let e : at ≡ length text = f.1 in omega arith
-ends_after text rest offset state TooLong at r some l f = let e : at ≡ 4096 = f.1 in omega arith
-ends_after text rest offset state _ at r some l f = absurd f
+ends_after text rest offset state fault at h1 h2 h3 h4 = grind (arith, common_steps)
 
 -- faults of a text from an item on, by what follows the item
 first_by : (text rest after : List ℕ) (offset : ℕ) (item : ItemValue) (old : State) (r : HasReached text rest offset old) (fault : ParseFault)
@@ -299,19 +281,13 @@ refuse_short text rest offset old r some l short =
     (omega arith)
 
 at_end_long : (text : List ℕ) (other : ParseFault) (at : ℕ) → 4096 < length text → IsFaultAtEnd text other at → (4096 < at) ⊎ ((4096 ≡ at) × (16 ≤ number_of other))
-at_end_long text CollectionOpen at long f = let e : at ≡ length text = f.1 in inl (omega arith)
-at_end_long text TooLong at long f = let e : at ≡ 4096 = f.1 in inr (omega arith, omega arith)
-at_end_long text _ at long f = absurd f
+at_end_long text other at h1 h2 = grind (arith, common_steps)
 
 at_end_open : (text : List ℕ) (other : ParseFault) (at : ℕ) → length text ≤ 4096 → IsFaultAtEnd text other at → (length text < at) ⊎ ((length text ≡ at) × (15 ≤ number_of other))
-at_end_open text CollectionOpen at short f = let e : at ≡ length text = f.1 in inr (omega arith, omega arith)
-at_end_open text TooLong at short f = absurd (let l : 4096 < length text = f.0 in omega arith)
-at_end_open text _ at short f = absurd f
+at_end_open text other at h1 h2 = grind (arith, common_steps)
 
 no_end : (text : List ℕ) (other : ParseFault) (at : ℕ) → length text ≤ 4096 → open_collections (all_items text) ≡ 0 → IsFaultAtEnd text other at → ⊥
-no_end text CollectionOpen at short none f = let l : 0 < open_collections (all_items text) = f.0 in omega arith
-no_end text TooLong at short none f = let l : 4096 < length text = f.0 in omega arith
-no_end text _ at short none f = f
+no_end text other at h1 h2 h3 = grind (arith, common_steps)
 
 -- a text that is too long, an item of which has no fault and reaches past the greatest length
 pub refuse_past : (text rest after : List ℕ) (offset : ℕ) (item : ItemValue) (old : State) (r : HasReached text rest offset old)

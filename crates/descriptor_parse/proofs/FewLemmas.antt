@@ -1,27 +1,19 @@
 -- A field has at most as many ranges of usages as items came before it.
-use Rattle.std.proofs.Common.{ℕ, suc, ◌≤◌, List, [], ◌∷◌, length, arith, Some, inl, inr, length-append}
+use Rattle.std.proofs.lemmas.Grind.{common_steps}
+use Rattle.std.proofs.Common.{ℕ, suc, ◌≤◌, List, [], ◌∷◌, length, arith, inl, inr}
 use Rattle.std.specs.Prelude.{Option, All}
 use Rattle.std.proofs.lemmas.Bool.{cases_Bool}
 use Rattle.std.proofs.lemmas.List.Elements.{All-nil, All-push}
 use Rattle.descriptor_parse.specs.declared.tag.Tag.{Tag}
-use Rattle.descriptor_parse.specs.declared.tag.Tag.TheVariants.{Main, Local}
-use Rattle.descriptor_parse.specs.declared.tag.LocalTag.TheVariants.{Usage, UsageMinimum, UsageMaximum}
 use Rattle.descriptor_parse.specs.Items.{ItemValue}
 use Rattle.descriptor_parse.specs.Tags.{tag}
 use Rattle.descriptor_parse.specs.Globals.{usage_page}
-use Rattle.descriptor_parse.specs.Locals.{unpaired, range_made, usages_since_main}
+use Rattle.descriptor_parse.specs.Locals.{unpaired, usages_since_main}
 use Rattle.descriptor_parse.specs.Fields.{is_field, field_usages}
 use Rattle.descriptor_parse.proofs.LocalLemmas.{usages_step, with_usages}
 
-one_made : (page : ℕ) (t : Tag) (item : ItemValue) (half : Option ItemValue) → length (range_made page t item half) ≤ 1
-one_made page (Local Usage) item half = omega arith
-one_made page (Local UsageMinimum) item (Some max) = omega arith
-one_made page (Local UsageMaximum) item (Some min) = omega arith
-one_made page _ item half = omega arith
-
 one_with : (page : ℕ) (t : Tag) (item : ItemValue) (half : Option ItemValue) (earlier : List (ℕ × ℕ)) → length (with_usages page t item half earlier) ≤ suc (length earlier)
-one_with page (Main m) item half earlier = omega arith
-one_with page t item half earlier = omega (arith, one_made page t item half, length-append earlier (range_made page t item half))
+one_with page t item half earlier = grind (arith, common_steps)
 
 few_since : (page : ℕ) (items : List ItemValue) → length (usages_since_main page items) ≤ length items
 unfolding usages_since_main

@@ -1,11 +1,12 @@
 -- What an item changes in the Globals of those after it.
-use Rattle.std.proofs.Common.{◌≡◌, ◌<◌, ◌%◌, ◌^◌, List, ◌∷◌, refl, arith, sym, ◌∙◌, ap, Bool, true, false}
+use Rattle.std.proofs.lemmas.Grind.{common_steps}
+use Rattle.std.proofs.Common.{◌≡◌, ◌<◌, List, ◌∷◌, refl, arith, sym, ◌∙◌, ap, Bool, true, false}
 use Rattle.descriptor_parse.specs.declared.globals.Globals.{Globals}
 use Rattle.descriptor_parse.specs.declared.stack.Stack.{Stack}
 use Rattle.descriptor_parse.specs.declared.tag.Tag.{Tag}
-use Rattle.descriptor_parse.specs.declared.tag.Tag.TheVariants.{Main, Global, Local, Skipped}
+use Rattle.descriptor_parse.specs.declared.tag.Tag.TheVariants.{Global}
 use Rattle.descriptor_parse.specs.declared.tag.GlobalTag.{GlobalTag}
-use Rattle.descriptor_parse.specs.declared.tag.GlobalTag.TheVariants.{UsagePage, LogicalMinimum, LogicalMaximum, ReportSize, ReportId, ReportCount, Push, Pop}
+use Rattle.descriptor_parse.specs.declared.tag.GlobalTag.TheVariants.{ReportId, Push}
 use Rattle.descriptor_parse.specs.Items.{ItemValue}
 use Rattle.descriptor_parse.specs.Tags.{tag, is_push, is_pop}
 use Rattle.descriptor_parse.specs.Globals.{unsigned, in_force}
@@ -20,35 +21,20 @@ is_global _ = false
 -- a Global item changes the values as it says
 globals_more : (t : GlobalTag) (item : ItemValue) (items : List ItemValue) → tag item ≡ Global t
     → (t ≡ ReportId → unsigned item.bytes < 256) → globals_with t item.bytes (globals_of items) ≡ globals_of (item ∷ items)
-globals_more UsagePage item items e id = rw e refl
-globals_more LogicalMinimum item items e id = rw e refl
-globals_more LogicalMaximum item items e id = rw e refl
-globals_more ReportSize item items e id = rw e refl
-globals_more ReportId item items e id =
-    let small : unsigned item.bytes < 256 = id refl in
-    let same : unsigned item.bytes % 2 ^ 8 ≡ unsigned item.bytes = omega arith in
-    rw (e, same) refl
-globals_more ReportCount item items e id = rw e refl
-globals_more Push item items e id = rw e refl
-globals_more Pop item items e id = rw e refl
+globals_more t item items h1 h2 = grind (arith, common_steps)
 
 -- a Push changes none
 pub globals_push : (item : ItemValue) (items : List ItemValue) → tag item ≡ Global Push → globals_of (item ∷ items) ≡ globals_of items
 globals_push item items e = rw e refl
 
 no_pop : (t : Tag) → is_global t ≡ false → is_pop t ≡ false
-no_pop (Global g) n = cc
-no_pop _ n = refl
+no_pop t h1 = grind (arith, common_steps)
 
 no_push : (t : Tag) → is_global t ≡ false → is_push t ≡ false
-no_push (Global g) n = cc
-no_push _ n = refl
+no_push t h1 = grind (arith, common_steps)
 
 globals_same : (t : Tag) (item : ItemValue) (items : List ItemValue) → tag item ≡ t → is_global t ≡ false → globals_of (item ∷ items) ≡ globals_of items
-globals_same (Main m) item items e n = rw e refl
-globals_same (Global g) item items e n = cc
-globals_same (Local l) item items e n = rw e refl
-globals_same Skipped item items e n = rw e refl
+globals_same t item items h1 h2 = grind (arith, common_steps)
 
 -- what is no Global item leaves them
 pub refine_other : (before : List ItemValue) (item : ItemValue) (globals : Stack Globals) → is_global (tag item) ≡ false

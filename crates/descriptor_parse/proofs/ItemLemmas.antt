@@ -1,6 +1,7 @@
-use Rattle.std.proofs.Common.{◌≡◌, ℕ, zero, suc, ◌+◌, ◌-◌, ◌*◌, ◌/◌, ◌%◌, ◌^◌, ◌<◌, ◌≤◌, List, [], ◌∷◌, length, take, drop, refl, ap, ◌∙◌, arith, length-drop, cond, false}
+use Rattle.std.proofs.lemmas.Grind.{common_steps}
+use Rattle.std.proofs.Common.{◌≡◌, ℕ, zero, suc, ◌+◌, ◌-◌, ◌*◌, ◌/◌, ◌%◌, ◌^◌, ◌<◌, ◌≤◌, List, [], ◌∷◌, length, drop, refl, ap, ◌∙◌, arith, length-drop, cond}
 use Rattle.std.specs.Prelude.{nat_lt, Result, Ok, Err, ◌==◌, slice_index, if◌then◌else◌}
-use Rattle.std.proofs.lemmas.Bool.{lt-ltb, le-ltb, cond_both, ne_eqb}
+use Rattle.std.proofs.lemmas.Bool.{le-ltb, cond_both}
 use Rattle.descriptor_parse.specs.declared.fault.ParseError.{ParseError}
 use Rattle.descriptor_parse.specs.declared.fault.ParseFault.TheVariants.{Truncated}
 use Rattle.descriptor_parse.specs.Items.{ItemValue, data_size, item_size, front_item, first_items, items_at}
@@ -47,8 +48,7 @@ items_end offset = refl
 -- a text that ends within its first item
 pub items_short : (offset : ℕ) (text : List ℕ) → 0 < length text → length text < item_size text → items_at offset text ≡ Err (record { fault = Truncated; offset = offset }) ∷ []
 unfolding items_at first_items
-items_short offset [] some short = absurd (omega arith)
-items_short offset (x ∷ xs) some short = rw (lt-ltb _ _ short) refl
+items_short offset text h1 h2 = grind (arith, common_steps)
 
 -- a text that begins with a whole item
 pub items_more : (offset : ℕ) (text : List ℕ) → 0 < length text → item_size text ≤ length text
@@ -78,19 +78,3 @@ items_fewer all more first e = let len : length all ≡ suc (length more) = ap l
 pub items_none : (offset : ℕ) (text : List ℕ) → length text ≡ 0 → items_at offset text ≡ []
 items_none offset [] e = items_end offset
 items_none offset (x ∷ xs) e = absurd (omega arith)
-
--- a short item at the front
-pub record IsShort (offset : ℕ) (text more : List ℕ) (prefix : ℕ) : Type 0 where
-  pub size : item_size text ≡ suc (data_size prefix)
-  pub item : record { offset = offset; prefix = prefix; bytes = take (data_size prefix) more } ≡ front_item offset text
-  pub rest : drop (data_size prefix) more ≡ drop (item_size text) text
-
-pub short_front : (offset : ℕ) (text more : List ℕ) (prefix : ℕ) → text ≡ prefix ∷ more → (prefix ≡ 254 → ⊥) → IsShort offset text more prefix
-short_front offset text more prefix e short =
-    let no : (prefix == 254) ≡ false = ne_eqb prefix 254 short in
-    let one : 1 + data_size prefix ≡ suc (data_size prefix) = omega arith in
-    record {
-      size = rw (e, no) one;
-      item = rw (e, no, one) refl;
-      rest = rw (e, no, one) refl;
-    }

@@ -115,11 +115,6 @@ linked_all fields read links place f z h few many =
     let none : place ≡ 0 = omega arith in
     rw f (record { few = few; as_many = many; nexts = rw none at h })
 
-pub first_all : (totals : Totals) (fields read : List Field) (place : ℕ) → read ≡ fields → place ≤ 0 → HasFirst totals place (drop place fields) → HasFirst totals 0 read
-first_all totals fields read place f z h =
-    let none : place ≡ 0 = omega arith in
-    λ k i. h k i ∙ ap (λ n. first_from k i n (drop n fields)) none ∙ ap (first_from k i 0) (sym f)
-
 pub next_at : (fields : List Field) (links : List Link) (place : ℕ) (d : Field) (link : Link) → AreLinked fields links → place < length fields → link ≡ get_or links place link
     → link.next ≡ first_from (get_or fields place d).kind (get_or fields place d).id (place + 1) (drop (place + 1) fields)
 next_at fields links place d link a l e =

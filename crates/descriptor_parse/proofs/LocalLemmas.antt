@@ -1,3 +1,4 @@
+use Rattle.std.proofs.lemmas.Grind.{common_steps}
 use Rattle.std.proofs.Common.{◌≡◌, ℕ, ◌+◌, ◌*◌, ◌%◌, ◌<◌, ◌≤◌, ◌^◌, List, [], ◌∷◌, ◌++◌, length, get_or, refl, arith, sym, ◌∙◌, ap, Bool, true, false, cond, map, Some, None, inl, inr}
 use Rattle.std.specs.Prelude.{Option, option_map, ◌==◌, slice_get}
 use Rattle.std.proofs.lemmas.List.{map-append, append-nil}
@@ -70,10 +71,7 @@ with_usages page t item half earlier = earlier ++ range_made page t item half
 
 usages_by : (page : ℕ) (t : Tag) (item : ItemValue) (before : List ItemValue) → tag item ≡ t
     → ranges_made page (since_main (item ∷ before)) ≡ with_usages page t item (without_partner (since_main before)) (ranges_made page (since_main before))
-usages_by page (Main m) item before e = rw e refl
-usages_by page (Global g) item before e = rw e (rw e refl)
-usages_by page (Local l) item before e = rw e (rw e refl)
-usages_by page Skipped item before e = rw e (rw e refl)
+usages_by page t item before h1 = grind (arith, common_steps)
 
 pub usages_step : (page : ℕ) (item : ItemValue) (before : List ItemValue)
     → usages_since_main page (item ∷ before) ≡ with_usages page (tag item) item (unpaired before) (usages_since_main page before)
@@ -88,10 +86,7 @@ refine_new locals h u = record { half = h; usages = λ page. ap (map (range_on p
 
 ended : (t : Tag) (item : ItemValue) (half : Option ItemValue) (page : ℕ) (earlier : List (ℕ × ℕ)) → is_main t ≡ true
     → (still_unpaired t item half ≡ None) × (with_usages page t item half earlier ≡ [])
-ended (Main m) item half page earlier e = (refl, refl)
-ended (Global g) item half page earlier e = cc
-ended (Local l) item half page earlier e = cc
-ended Skipped item half page earlier e = cc
+ended t item half page earlier h1 = grind (arith, common_steps)
 
 -- a Main item ends them
 pub refine_main : (before : List ItemValue) (item : ItemValue) (locals : Locals) → is_main (tag item) ≡ true
@@ -110,10 +105,7 @@ is_silent _ = false
 
 silent : (t : Tag) (item : ItemValue) (half : Option ItemValue) (page : ℕ) (earlier : List (ℕ × ℕ)) → is_silent t ≡ true
     → (still_unpaired t item half ≡ half) × (with_usages page t item half earlier ≡ earlier)
-silent (Global g) item half page earlier e = (refl, append-nil earlier)
-silent (Local Delimiter) item half page earlier e = (refl, append-nil earlier)
-silent Skipped item half page earlier e = (refl, append-nil earlier)
-silent _ item half page earlier e = cc
+silent t item half page earlier h1 = grind (arith, common_steps)
 
 pub refine_silent : (before : List ItemValue) (item : ItemValue) (locals : Locals) → is_silent (tag item) ≡ true
     → LocalsRefine before locals → LocalsRefine (item ∷ before) locals

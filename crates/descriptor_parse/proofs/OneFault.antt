@@ -1,5 +1,6 @@
 -- A text has one first fault.
-use Rattle.std.proofs.Common.{◌≡◌, ℕ, List, refl, ap, sym, ◌∙◌, arith, inl, inr}
+use Rattle.std.proofs.lemmas.Grind.{common_steps}
+use Rattle.std.proofs.Common.{◌≡◌, ℕ, List, ap, sym, ◌∙◌, arith, inl, inr}
 use Rattle.std.specs.Prelude.{◌==◌, if◌then◌else◌}
 use Rattle.descriptor_parse.specs.declared.fault.ParseError.{ParseError}
 use Rattle.descriptor_parse.specs.declared.fault.ParseFault.{ParseFault}
@@ -17,23 +18,7 @@ fault_of n =
 
 back : (fault : ParseFault) → fault_of (number_of fault) ≡ fault
 unfolding fault_of
-back Truncated = refl
-back Delimiter = refl
-back PopEmpty = refl
-back PushDeep = refl
-back BadReportId = refl
-back SizeTooLarge = refl
-back CountTooLarge = refl
-back EndWithoutCollection = refl
-back CollectionDeep = refl
-back UnpairedUsage = refl
-back UsageInverted = refl
-back LogicalInverted = refl
-back TooManyFields = refl
-back MixedIds = refl
-back CollectionOpen = refl
-back TooLong = refl
-back Memory = refl
+back fault = grind (arith, common_steps)
 
 same_fault : (a b : ParseFault) → number_of a ≡ number_of b → a ≡ b
 same_fault a b e = sym (back a) ∙ ap fault_of e ∙ back b

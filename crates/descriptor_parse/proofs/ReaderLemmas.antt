@@ -1,4 +1,5 @@
 -- The fields of one report among all.
+use Rattle.std.proofs.lemmas.Grind.{common_steps}
 use Rattle.std.proofs.Common.{◌≡◌, ℕ, zero, suc, ◌+◌, ◌<◌, ◌≤◌, List, [], ◌∷◌, length, length-drop, take, drop, get_or, arith, refl, sym, ◌∙◌, ap, inl, inr, true, false}
 use Rattle.std.specs.Prelude.{pos, ◌-◌, ◌==◌, if◌then◌else◌, filter, zip, min, slice_index, slice_get, unwrap_or}
 use Rattle.std.proofs.lemmas.Bool.{cases_Bool, and_parts, eqb-true}
@@ -52,15 +53,7 @@ zip_length : (fields : List Field) (ranges : List (List (ℕ × ℕ))) → lengt
 zip_length fields ranges e = let both : length (zip fields ranges) ≡ min (length fields) (length ranges) = length-zip fields ranges in omega arith
 
 kinds_equal : (a b : Kind) → same_kind a b ≡ true → a ≡ b
-kinds_equal Kind.Input Kind.Input e = refl
-kinds_equal Kind.Output Kind.Output e = refl
-kinds_equal Kind.Feature Kind.Feature e = refl
-kinds_equal Kind.Input Kind.Output e = cc
-kinds_equal Kind.Input Kind.Feature e = cc
-kinds_equal Kind.Output Kind.Input e = cc
-kinds_equal Kind.Output Kind.Feature e = cc
-kinds_equal Kind.Feature Kind.Input e = cc
-kinds_equal Kind.Feature Kind.Output e = cc
+kinds_equal a b h1 = grind (arith, common_steps)
 
 parts_many : (links : List Link) (fields : List Field) (ranges : List (ℕ × ℕ)) → length links ≡ length fields → length (parts (ends_of links) ranges) ≡ length fields
 parts_many links fields ranges e =

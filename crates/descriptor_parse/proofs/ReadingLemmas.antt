@@ -1,22 +1,23 @@
 -- A text that comes in pieces.
-use Rattle.std.proofs.Common.{◌≡◌, ℕ, zero, suc, ◌+◌, ◌*◌, ◌-◌, map, get_or, ◌<◌, ◌≤◌, List, [], ◌∷◌, ◌++◌, length, take, drop, refl, arith, sym, ◌∙◌, ap, subst, Bool, true, false, None, Some, inl, inr, length-append, length-drop, append_assoc}
-use Rattle.std.specs.Prelude.{slice_index, ◌==◌, IsTrue, Option, Result, IfOk, IfErr, ◌≢◌, Ok, Err}
+use Rattle.std.proofs.lemmas.Grind.{common_steps}
+use Rattle.std.proofs.Common.{◌≡◌, ℕ, ◌+◌, ◌*◌, ◌-◌, map, get_or, ◌<◌, ◌≤◌, List, [], ◌∷◌, ◌++◌, length, drop, refl, arith, sym, ◌∙◌, ap, subst, Bool, true, None, Some, inl, inr, length-append, length-drop, append_assoc}
+use Rattle.std.specs.Prelude.{slice_index, ◌==◌, IsTrue, Option, Result, Ok, Err}
 use Rattle.std.proofs.Math.Seq.{drop-append_seam}
 use Rattle.std.proofs.Math.ListN.{get_or-eq_default}
 use Rattle.std.proofs.lemmas.List.{length-map}
 use Rattle.std.proofs.lemmas.List.Elements.{All-weaker}
-use Rattle.std.proofs.lemmas.List.{take-append-le, drop-append-le, append-nil}
-use Rattle.std.proofs.lemmas.Bool.{cases_Bool, cases_lt, cases_eq, eq-eqb, eqb-true}
+use Rattle.std.proofs.lemmas.List.{drop-append-le, append-nil}
+use Rattle.std.proofs.lemmas.Bool.{cases_lt, eqb-true}
 use Rattle.descriptor_parse.specs.declared.fault.ParseError.{ParseError}
 use Rattle.descriptor_parse.specs.declared.fault.ParseFault.{ParseFault}
-use Rattle.descriptor_parse.specs.declared.fault.ParseFault.TheVariants.{Truncated, CollectionOpen, Memory, TooLong}
+use Rattle.descriptor_parse.specs.declared.fault.ParseFault.TheVariants.{Truncated, CollectionOpen, TooLong}
 use Rattle.descriptor_parse.specs.declared.field.Kind.{Kind}
 use Rattle.descriptor_parse.specs.declared.reports.Link.{Link}
 use Rattle.descriptor_parse.specs.declared.totals.IdReports.{IdReports}
 use Rattle.descriptor_parse.specs.declared.state.State.{State}
 use Rattle.descriptor_parse.specs.declared.reading.Reading.{Reading}
-use Rattle.descriptor_parse.specs.Items.{ItemValue, items_at, item_size, front_item, data_size, head_size}
-use Rattle.descriptor_parse.specs.Faults.{fault_at, all_items, IsFaultAmong, IsFaultAtEnd, IsFirst, IsFirstFault, IsFaultless, MayWantMemory}
+use Rattle.descriptor_parse.specs.Items.{ItemValue, items_at, item_size, front_item}
+use Rattle.descriptor_parse.specs.Faults.{fault_at, all_items, IsFaultAmong, IsFaultAtEnd, IsFirst, IsFaultless}
 use Rattle.descriptor_parse.specs.Descriptor.{DescriptorValue, Describes, bits_on, bits_of, no_bits}
 use Rattle.descriptor_parse.specs.representation.DescriptorView.{value_of}
 use Rattle.descriptor_parse.specs.representation.Linked.{ends_of}
@@ -37,24 +38,11 @@ use Rattle.descriptor_parse.proofs.FaultLemmas.{reach_start, reach_more, refuse_
 
 -- ---- the item at the front of a text that goes on
 
-one_byte : (x : ℕ) (more : List ℕ) → item_size (x ∷ []) ≤ 1 → item_size (x ∷ more) ≡ item_size (x ∷ [])
-one_byte x more whole =
-    elim (cases_Bool (x == 254)) [
-      | inl e ↦ absurd (let w : 3 + 0 ≤ 1 = (rw e at whole) in omega arith)
-      | inr e ↦ rw e refl
-    ]
-
 pub same_size : (rest more : List ℕ) → item_size rest ≤ length rest → item_size (rest ++ more) ≡ item_size rest
-same_size [] more whole = absurd (let p : 0 < item_size [] = size_pos [] in omega arith)
-same_size (x ∷ []) more whole = one_byte x more whole
-same_size (x ∷ y ∷ rest) more whole = refl
+same_size rest more h1 = grind (arith, common_steps)
 
 pub same_front : (offset : ℕ) (rest more : List ℕ) → item_size rest ≤ length rest → front_item offset (rest ++ more) ≡ front_item offset rest
-same_front offset [] more whole = absurd (let p : 0 < item_size [] = size_pos [] in omega arith)
-same_front offset (x ∷ rest) more whole =
-    let e : take (item_size (x ∷ rest ++ more)) (x ∷ rest ++ more) ≡ take (item_size (x ∷ rest)) (x ∷ rest) =
-    ap (λ n. take n (x ∷ rest ++ more)) (same_size (x ∷ rest) more whole) ∙ take-append-le (item_size (x ∷ rest)) (x ∷ rest) more whole in
-    ap (λ (bytes : List ℕ). let i : ItemValue = record { offset = offset; prefix = x; bytes = drop (head_size x) bytes } in i) e
+same_front offset rest more h1 = grind (arith, common_steps)
 
 pub front_more : (item : ItemValue) (part rest : List ℕ) (offset : ℕ) → IsFront item part offset → IsFront item (part ++ rest) offset
 front_more item part rest offset f =
@@ -70,22 +58,7 @@ pub size_between : (rest after : List ℕ) → after ≡ drop (item_size rest) r
 size_between rest after e whole = omega (arith, ap length e, length-drop (item_size rest) rest)
 
 pub no_bytes : (xs : List ℕ) → length xs ≡ 0 → xs ≡ []
-no_bytes [] e = refl
-no_bytes (x ∷ xs) e = absurd (omega arith)
-
--- one byte more makes no item shorter
-pub size_grows : (part : List ℕ) (byte : ℕ) → length part < item_size part → length (part ++ byte ∷ []) ≤ item_size (part ++ byte ∷ [])
-size_grows [] byte short = size_pos (byte ∷ [])
-size_grows (x ∷ []) byte short =
-    elim (cases_Bool (x == 254)) [
-      | inl e ↦ rw e (omega arith)
-      | inr e ↦ (let s : 1 < 1 + data_size x = (rw e at short) in rw e (omega arith))
-    ]
-size_grows (x ∷ y ∷ part) byte short = omega (arith, length-append part (byte ∷ []))
-
--- a byte was moved
-pub moved_more : (all part rest after moved left : List ℕ) (byte : ℕ) → part ++ rest ≡ all → rest ≡ byte ∷ after → moved ≡ part ++ byte ∷ [] → left ≡ after → moved ++ left ≡ all
-moved_more all part rest after moved left byte inv e m l = rw (m, l, append_assoc part (byte ∷ []) after) (rw e at inv)
+no_bytes xs h1 = grind (arith, common_steps)
 
 -- ---- how far a text was read, whatever follows
 
@@ -264,9 +237,7 @@ ends_counted text rest offset state bytes a none closed =
     }
 
 no_bits_some : (kind : Kind) (bits : ℕ) → bits_on kind no_bits ≡ bits → 0 < bits → ⊥
-no_bits_some Kind.Input bits e l = omega arith
-no_bits_some Kind.Output bits e l = omega arith
-no_bits_some Kind.Feature bits e l = omega arith
+no_bits_some kind bits h1 h2 = grind (arith, common_steps)
 
 id_within : (totals : List IdReports) (kind : Kind) (id bits : ℕ) → bits_on kind (get_or (map (λ (r : IdReports). r.bits) totals) id no_bits) ≡ bits → 0 < bits → id < length totals
 id_within totals kind id bits e some = elim (cases_lt id (length totals)) [
@@ -277,9 +248,7 @@ id_within totals kind id bits e some = elim (cases_lt id (length totals)) [
 ]
 
 some_bits : (bit size count all : ℕ) → 0 < size → 0 < count → bit + size * count ≤ all → 0 < all
-some_bits bit (suc size) (suc count) all s c l = omega arith
-some_bits bit zero count all s c l = omega arith
-some_bits bit (suc size) zero all s c l = omega arith
+some_bits bit size count all h1 h2 h3 = grind (arith, common_steps)
 
 -- and its fields can be tied together
 pub ends_linkable : (text rest : List ℕ) (offset : ℕ) (state : State) → AreBytes text → IsAt text rest offset state → length rest ≡ 0 → state.collections ≡ 0 → CanLink state.reports
@@ -299,14 +268,6 @@ ends_linkable text rest offset state bytes a none closed =
       unlinked = (at_end text rest offset state a).refines.reports.unlinked;
     }
 
--- what a test on a length says
-pub some_of : (b : Bool) (n : ℕ) → b ≡ (n == 0) → b ≡ false → 0 < n
-some_of b n e t =
-    elim (cases_eq n 0) [
-      | inl z ↦ absurd (let y : (n == 0) ≡ true = eq-eqb n 0 z in cc)
-      | inr some ↦ omega arith
-    ]
-
 pub none_of : (b : Bool) (n : ℕ) → b ≡ (n == 0) → b ≡ true → n ≡ 0
 none_of b n e t = eqb-true n 0 (sym e ∙ t)
 
@@ -316,16 +277,6 @@ none_of b n e t = eqb-true n 0 (sym e ∙ t)
 pub at_filled : (text part piece filled rest : List ℕ) (offset : ℕ) (state : State) → filled ++ rest ≡ part ++ piece → IsAt text part offset state
     → IsAt (text ++ piece) (filled ++ rest) offset state
 at_filled text part piece filled rest offset state moved a = rw moved (at_more text part piece offset state a)
-
--- an item that is still not whole
-pub still_short : (text part piece filled rest : List ℕ) (reading : Reading) (offset : ℕ) (state : State) → filled ++ rest ≡ part ++ piece → rest ≡ []
-    → IsAt text part offset state → length filled < item_size filled → reading.part.items ≡ filled → reading.offset ≡ offset → reading.state ≡ state → IsReading (text ++ piece) reading
-still_short text part piece filled rest reading offset state moved none a short p o s =
-    let all : filled ≡ part ++ piece = sym (append-nil filled) ∙ ap (λ r. filled ++ r) (sym none) ∙ moved in
-    record {
-      at = rw (p, o, s, all) (at_more text part piece offset state a);
-      short = rw p short;
-    }
 
 -- a piece where no bytes were kept
 pub at_fresh : (text part piece : List ℕ) (offset : ℕ) (state : State) → part ≡ [] → IsAt text part offset state → IsAt (text ++ piece) piece offset state
@@ -362,17 +313,8 @@ filled_up text part piece kept front rest offset len item state e moved most l w
 
 -- ---- what was fed
 
-byte_append : (x : ℕ) (xs ys : List ℕ) → AreBytes (x ∷ xs) → AreBytes ys → (i : ℕ) → slice_index (x ∷ xs ++ ys) i < 256
-byte_append x xs ys a b zero = a 0
-byte_append x [] ys a b (suc i) = b i
-byte_append x (y ∷ xs) ys a b (suc i) = byte_append y xs ys (λ j. a (suc j)) b i
-
 pub bytes_append : (xs ys : List ℕ) → AreBytes xs → AreBytes ys → AreBytes (xs ++ ys)
-bytes_append [] ys a b = b
-bytes_append (x ∷ xs) ys a b = λ i. byte_append x xs ys a b i
-
-pub fed_nothing : (reading : Reading) → IsReading [] reading → WasFed [] reading None
-fed_nothing reading s = record { bytes = λ i. omega arith; going = λ n. s; reported = λ e t. cc }
+bytes_append xs ys h1 h2 = grind (arith, common_steps)
 
 pub fed_on : (text piece : List ℕ) (old new : Reading) (refused : Option ParseError) → refused ≡ None → AreBytes piece → WasFed text old refused
     → (IsReading text old → IsReading (text ++ piece) new) → WasFed (text ++ piece) new refused
@@ -390,31 +332,7 @@ fed_off text piece old new refused e none bytes s more = record {
   reported = λ f t. (let same : e ≡ f = cc in rw (← same) (more (s.going none)));
 }
 
-pub fed_still : (text piece : List ℕ) (reading : Reading) (refused : Option ParseError) (e : ParseError) → refused ≡ Some e → AreBytes piece → WasFed text reading refused
-    → WasFed (text ++ piece) reading refused
-fed_still text piece reading refused e some bytes s = record {
-  bytes = bytes_append text piece s.bytes bytes;
-  going = λ n. cc;
-  reported = λ f t more. rw (append_assoc text piece more) (s.reported f t (piece ++ more));
-}
-
 -- ---- answers, clause by clause
-
-pub answers_faultless : (text : List ℕ) (r : Result DescriptorValue ParseError) → Answers text r → IfOk r (λ d. IsFaultless text)
-answers_faultless text (Ok d) a = a.0
-answers_faultless text (Err e) a = tt
-
-pub answers_described : (text : List ℕ) (r : Result DescriptorValue ParseError) → Answers text r → IfOk r (λ d. Describes (all_items text) d)
-answers_described text (Ok d) a = a.1
-answers_described text (Err e) a = tt
-
-pub answers_first : (text : List ℕ) (r : Result DescriptorValue ParseError) → Answers text r → IfErr r (λ e. e.fault ≢ Memory → IsFirstFault text e)
-answers_first text (Ok d) a = tt
-answers_first text (Err e) a = a.first
-
-pub answers_memory : (text : List ℕ) (r : Result DescriptorValue ParseError) → Answers text r → IfErr r (λ e. e.fault ≡ Memory → MayWantMemory text e.offset)
-answers_memory text (Ok d) a = tt
-answers_memory text (Err e) a = a.memory
 
 -- two descriptors of the same items are the same
 pub same_fields : (items : List ItemValue) (a b : DescriptorValue) → Describes items a → Describes items b → AreSame (Ok a) (Ok b)

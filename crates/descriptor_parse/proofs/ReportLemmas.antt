@@ -1,4 +1,5 @@
-use Rattle.std.proofs.Common.{◌≡◌, ℕ, zero, suc, ◌+◌, ◌-◌, ◌*◌, ◌%◌, ◌<◌, ◌≤◌, ◌^◌, min, List, [], ◌∷◌, ◌++◌, length, length-append, refl, arith, sym, ◌∙◌, ap, Bool, true, false, cond, map}
+use Rattle.std.proofs.lemmas.Grind.{common_steps}
+use Rattle.std.proofs.Common.{◌≡◌, ℕ, suc, ◌+◌, ◌-◌, ◌*◌, ◌%◌, ◌<◌, ◌≤◌, ◌^◌, min, List, [], ◌∷◌, ◌++◌, length, length-append, refl, arith, sym, ◌∙◌, ap, Bool, true, false, cond, map}
 use Rattle.std.specs.Prelude.{◌==◌, ◌&&◌, ◌||◌, not}
 use Rattle.std.proofs.lemmas.List.{length-map}
 use Rattle.std.proofs.lemmas.Nat.{mul-le}
@@ -51,16 +52,13 @@ is_neutral (Global ReportId) = false
 is_neutral _ = true
 
 no_data : (t : Tag) → is_neutral t ≡ true → is_data t ≡ false
-no_data (Main (Data kind)) n = cc
-no_data _ n = refl
+no_data t h1 = grind (arith, common_steps)
 
 no_data_of : (kind : Kind) (t : Tag) → is_data t ≡ false → is_data_of kind t ≡ false
-no_data_of kind (Main (Data other)) n = cc
-no_data_of kind _ n = refl
+no_data_of kind t h1 = grind (arith, common_steps)
 
 no_id : (t : Tag) → is_neutral t ≡ true → is_report_id t ≡ false
-no_id (Global ReportId) n = cc
-no_id _ n = refl
+no_id t h1 = grind (arith, common_steps)
 
 -- what is no data item leaves all but the use of IDs
 pub refine_no_data : (before : List ItemValue) (item : ItemValue) (old new : Reports) → is_data (tag item) ≡ false
@@ -91,9 +89,7 @@ product_small : (a b : ℕ) → a ≤ 1024 → b ≤ 1024 → a * b ≤ 1048576
 product_small a b x y = mul-le a b 1024 1024 x y
 
 even_below_two : (r : ℕ) → r < 2 → (r == 0) ≡ not (r == 1)
-even_below_two zero l = refl
-even_below_two (suc zero) l = refl
-even_below_two (suc (suc r)) l = absurd (omega arith)
+even_below_two r h1 = grind (arith, common_steps)
 
 even : (n : ℕ) → (n % 2 == 0) ≡ not (n % 2 == 1)
 even n = even_below_two (n % 2) (omega arith)
@@ -101,8 +97,7 @@ even n = even_below_two (n % 2) (omega arith)
 total_at : (b : Bool) (old new bits product len : ℕ) → product ≤ 1048576 → bits ≤ 2 ^ 20 * len → len ≤ 4096 → old ≡ bits
     → new ≡ cond b (min (2 ^ 64 - 1) (old + min product (2 ^ 64 - 1))) old
     → (new ≡ cond b (bits + product) bits) × (cond b (bits + product) bits ≤ 2 ^ 20 * suc len)
-total_at true old new bits product len p s l e n = (omega arith, omega arith)
-total_at false old new bits product len p s l e n = (omega arith, omega arith)
+total_at b old new bits product len h1 h2 h3 h4 h5 = grind (arith, common_steps)
 
 -- a data item declares a field by its own data and the Globals in force
 pub declares_field : (before : List ItemValue) (item : ItemValue) (kind : Kind) (g : Globals) → tag item ≡ Main (Data kind)
@@ -129,10 +124,7 @@ same_field : (before : List ItemValue) (item : ItemValue) (kind : Kind) (bit : �
 same_field before item kind bit g e f b = rw (f, b, e) refl
 
 or_bare : (a b : Bool) → (a || b) ≡ cond b true a
-or_bare true true = refl
-or_bare true false = refl
-or_bare false true = refl
-or_bare false false = refl
+or_bare a b = grind (arith, common_steps)
 
 -- a field is within the limits of fields
 within : (before : List ItemValue) (item : ItemValue) (g : Globals) → g ≡ globals_of (in_force before) → FitsData before item
@@ -226,8 +218,7 @@ refine_noted_id before item t old new e id a b n c k d f s =
     refine_no_data before item old new (ap is_data is) a b n c k (d ∙ (rw is refl)) f s
 
 neutral_global : (t : GlobalTag) → (t ≡ ReportId → ⊥) → is_neutral (Global t) ≡ true
-neutral_global ReportId n = absurd (n refl)
-neutral_global _ n = refl
+neutral_global t h1 = grind (arith, common_steps)
 
 -- any other Global item
 pub refine_noted : (before : List ItemValue) (item : ItemValue) (t : GlobalTag) (reports : Reports) → tag item ≡ Global t → (t ≡ ReportId → ⊥)

@@ -1,4 +1,5 @@
 -- What holds of the items of each text that shows no fault: their data, how many they are, and the extents in force.
+use Rattle.std.proofs.lemmas.Grind.{common_steps}
 use Rattle.std.proofs.Common.{◌≡◌, ℕ, zero, suc, ◌+◌, ◌-◌, ◌*◌, ◌%◌, ◌^◌, ◌<◌, ◌≤◌, List, [], ◌∷◌, length, take, drop, get_or, refl, arith, ◌∙◌, ap, Bool, true, false, cond, None, Some, Ok, inl, inr, length-take, length-drop}
 use Rattle.std.specs.Prelude.{Option, slice_index, ◌≢◌, nat_lt, int_lt, ℤ, pos, ◌-ℤ◌, neg_ℤ, ◌≤ℤ◌, ◌<ℤ◌}
 use Rattle.std.specs.List.{list_any}
@@ -70,8 +71,7 @@ AreSound [] = Unit
 AreSound (item ∷ before) = IsSound before item × AreSound before
 
 none_of : (found : Option ParseFault) → ((fault : ParseFault) → found ≡ Some fault → ⊥) → found ≡ None
-none_of None n = refl
-none_of (Some fault) n = absurd (n fault refl)
+none_of found h1 = grind (arith, common_steps)
 
 short_size : (p : ℕ) → (data_size p ≤ 4) × (data_size p ≡ 3 → ⊥)
 short_size p =

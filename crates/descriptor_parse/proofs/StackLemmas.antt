@@ -1,4 +1,5 @@
 -- What an item changes in the values of Global items that are in force and saved.
+use Rattle.std.proofs.lemmas.Grind.{common_steps}
 use Rattle.std.proofs.Common.{◌≡◌, ◌<◌, List, [], ◌∷◌, ◌++◌, length, refl, arith, sym, ◌∙◌, ap, Bool, true, false, cond, length-append, inl, inr}
 use Rattle.std.proofs.lemmas.Bool.{cases_Bool}
 use Rattle.std.specs.Prelude.{filter}
@@ -138,9 +139,7 @@ refine_no_pop values before item old new e none now saved s =
     record { now = now ∙ s.now ∙ sym (ap values same); saved = saved ∙ s.saved ∙ sym (ap (saved_of values) same) }
 
 pub not_push : (t : GlobalTag) → (t ≡ Push → ⊥) → is_push (Global t) ≡ false
-not_push Push n = absurd (n refl)
-not_push _ n = refl
+not_push t h1 = grind (arith, common_steps)
 
 pub not_pop : (t : GlobalTag) → (t ≡ Pop → ⊥) → is_pop (Global t) ≡ false
-not_pop Pop n = absurd (n refl)
-not_pop _ n = refl
+not_pop t h1 = grind (arith, common_steps)

@@ -1,3 +1,4 @@
+use Rattle.std.proofs.lemmas.Grind.{common_steps}
 use Rattle.std.proofs.Common.{◌≡◌, ℕ, ◌+◌, ◌-◌, ◌/◌, ◌<◌, ◌≤◌, ◌^◌, List, ◌∷◌, refl, arith, sym, ◌∙◌, ap, Bool, true, false, cond, Some, None, inl, inr}
 use Rattle.std.specs.Prelude.{◌==◌, ◌&&◌, ◌||◌, not, nat_lt, IsTrue, Option, option_map, is_some}
 use Rattle.std.proofs.lemmas.Bool.{cases_Bool, or_parts, ltb-false, leb-false, eqb-false}
@@ -34,8 +35,7 @@ use Rattle.descriptor_parse.proofs.ReportLemmas.{refine_neutral, is_neutral, dec
 -- ---- the fault of an item, by what the state holds
 
 some_map : (half : Option ItemValue) → is_some (option_map half_of half) ≡ is_some half
-some_map None = refl
-some_map (Some item) = refl
+some_map half = grind (arith, common_steps)
 
 same_match : (min max : List ℕ) → are_alike (usage_of min) (usage_of max) ≡ is_match min max
 same_match min max =
@@ -50,8 +50,7 @@ raw_is : (bytes : List ℕ) → raw_of (usage_of bytes) ≡ unsigned bytes
 raw_is bytes = elim (has_page bytes) as (λ b. raw_of (cond b (Whole (unsigned bytes)) (Short (unsigned bytes))) ≡ unsigned bytes) [ true ↦ refl | false ↦ refl ]
 
 not_not : (b : Bool) → not (not b) ≡ b
-not_not true = refl
-not_not false = refl
+not_not b = grind (arith, common_steps)
 
 local_at : (t : LocalTag) (before : List ItemValue) (item : ItemValue) (half : Option ItemValue) → tag item ≡ Local t → unpaired before ≡ half
     → fault_at before item ≡ fault_of_local t (usage_of item.bytes) (option_map half_of half)
@@ -162,8 +161,7 @@ refine_skipped before item state e s =
 -- ---- what no fault says
 
 none_left : (b : Bool) (fault : ParseFault) (more : Option ParseFault) → cond b (Some fault) more ≡ None → (b ≡ false) × (more ≡ None)
-none_left true fault more e = cc
-none_left false fault more e = (refl, e)
+none_left b fault more h1 = grind (arith, common_steps)
 
 pub fits_data : (before : List ItemValue) (item : ItemValue) (kind : Kind) (s : State) → tag item ≡ Main (Data kind) → StateRefines before s
     → fault_of_main (Data kind) (unsigned item.bytes) s ≡ None → FitsData before item
@@ -210,15 +208,11 @@ long_skipped prefix e = rw e refl
 
 pub wants_main : (t : MainTag) (before : List ItemValue) (item : ItemValue) (s : State) → tag item ≡ Main t → StateRefines before s
     → IsData t → IsTrue (fills s.globals.now) → IsTrue (wants_memory (tag item) before)
-wants_main (Data kind) before item s e st d f = rw e (rw st.globals.now at f)
-wants_main _ before item s e st d f = absurd d
+wants_main t before item s h1 h2 h3 h4 = grind (arith, common_steps)
 
 pub wants_local : (t : LocalTag) (before : List ItemValue) (item : ItemValue) (locals : Locals) → tag item ≡ Local t → LocalsRefine before locals
     → IsTrue (adds_range t locals.half) → IsTrue (wants_memory (tag item) before)
-wants_local local.Usage before item locals e st f = rw e refl
-wants_local local.Delimiter before item locals e st f = cc
-wants_local local.UsageMinimum before item locals e st f = rw e (sym (some_map (unpaired before)) ∙ ap is_some (sym st.half) ∙ f)
-wants_local local.UsageMaximum before item locals e st f = rw e (sym (some_map (unpaired before)) ∙ ap is_some (sym st.half) ∙ f)
+wants_local t before item locals h1 h2 h3 = grind (arith, common_steps)
 
 pub wants_global : (t : GlobalTag) (before : List ItemValue) (item : ItemValue) → tag item ≡ Global t → t ≡ Push → IsTrue (wants_memory (tag item) before)
 wants_global t before item e p = rw (e ∙ ap Global p) refl

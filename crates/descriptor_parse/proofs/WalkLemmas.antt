@@ -1,4 +1,5 @@
 -- The usages of ranges one by one.
+use Rattle.std.proofs.lemmas.Grind.{common_steps}
 use Rattle.std.proofs.Common.{◌≡◌, ℕ, suc, ◌+◌, ◌-◌, ◌<◌, ◌≤◌, List, [], ◌∷◌, ◌++◌, length, take, drop, get_or, length-drop, arith, refl, sym, ◌∙◌, ap, inl, inr}
 use Rattle.std.specs.Prelude.{Bool, true, false, nat_le, if◌then◌else◌}
 use Rattle.std.proofs.lemmas.Bool.{cases_lt, lt-leb, le-leb}
@@ -40,8 +41,7 @@ hand-last next last some e low high = rw e (up-more next (last + 1 - next) 0 (om
 
 pub no-ranges : (ranges : List (ℕ × ℕ)) → length ranges ≡ 0 → usage_list ranges ≡ []
 unfolding usage_list
-no-ranges [] e = refl
-no-ranges (r ∷ rs) e = absurd (omega arith)
+no-ranges ranges h1 = grind (arith, common_steps)
 
 pub front-range : (ranges : List (ℕ × ℕ)) → 0 < length ranges
     → usage_list ranges ≡ count_up (get_or ranges 0 (0, 0)).0 ((get_or ranges 0 (0, 0)).1 + 1 - (get_or ranges 0 (0, 0)).0) ++ usage_list (take (length ranges - 1) (drop 1 ranges))

@@ -1,5 +1,6 @@
 -- What holds of the descriptor of each text that shows no fault.
-use Rattle.std.proofs.Common.{◌≡◌, ℕ, ◌+◌, ◌*◌, ◌/◌, ◌^◌, ◌<◌, ◌≤◌, List, [], ◌∷◌, length, get_or, refl, arith, sym, ◌∙◌, ap, Bool, true, false, cond, None, Some, inl, inr, length-append, ◌⊎◌}
+use Rattle.std.proofs.lemmas.Grind.{common_steps}
+use Rattle.std.proofs.Common.{◌≡◌, ℕ, ◌+◌, ◌*◌, ◌/◌, ◌^◌, ◌<◌, ◌≤◌, List, [], ◌∷◌, length, get_or, refl, arith, sym, ◌∙◌, ap, Bool, true, false, cond, Some, inl, inr, length-append, ◌⊎◌}
 use Rattle.std.specs.Prelude.{Option, ◌==◌, ◌&&◌, ◌||◌, not, nat_lt, nat_le, All, pos, neg_ℤ, ◌≤ℤ◌, ◌<ℤ◌}
 use Rattle.std.proofs.lemmas.Bool.{cases_Bool, cases_eq, and_parts, or_parts, ltb-true, ltb-false, leb-false, eq-eqb, eqb-true}
 use Rattle.std.proofs.lemmas.Nat.{mul-le}
@@ -7,12 +8,10 @@ use Rattle.std.proofs.lemmas.List.Elements.{All-nil, All-cons, All-append, All-p
 use Rattle.descriptor_parse.specs.declared.fault.ParseFault.{ParseFault}
 use Rattle.descriptor_parse.specs.declared.fault.ParseFault.TheVariants.{SizeTooLarge, CountTooLarge, UnpairedUsage, UsageInverted, TooManyFields, MixedIds}
 use Rattle.descriptor_parse.specs.declared.field.Kind.{Kind}
-use Rattle.descriptor_parse.specs.declared.field.Kind.TheVariants.{Input, Output, Feature}
 use Rattle.descriptor_parse.specs.declared.field.Field.{Field}
 use Rattle.descriptor_parse.specs.declared.tag.Tag.{Tag}
-use Rattle.descriptor_parse.specs.declared.tag.Tag.TheVariants.{Main, Global, Local, Skipped}
+use Rattle.descriptor_parse.specs.declared.tag.Tag.TheVariants.{Main, Local, Skipped}
 use Rattle.descriptor_parse.specs.declared.tag.MainTag.TheVariants.{Data}
-use Rattle.descriptor_parse.specs.declared.tag.GlobalTag.TheVariants.{ReportId}
 use Rattle.descriptor_parse.specs.declared.tag.LocalTag.TheVariants as local
 use Rattle.descriptor_parse.specs.Items.{ItemValue}
 use Rattle.descriptor_parse.specs.Tags.{tag, same_kind, is_data, is_data_of, is_report_id}
@@ -54,8 +53,7 @@ bare_stays item before b =
     elim (cases_Bool (is_data (tag item) && report_id before == 0)) [ inl e ↦ rw e refl | inr e ↦ rw e b ]
 
 or_true : (a : Bool) → (a || true) ≡ true
-or_true true = refl
-or_true false = refl
+or_true a = grind (arith, common_steps)
 
 fits_on : (item : ItemValue) (before : List ItemValue) (field : Field) → Fits before field → Fits (item ∷ before) field
 fits_on item before field f =
@@ -75,13 +73,10 @@ fits_on item before field f =
     }
 
 data_kind : (t : Tag) → is_data t ≡ true → t ≡ Main (Data (kind_of t))
-data_kind (Main (Data kind)) e = refl
-data_kind _ e = cc
+data_kind t h1 = grind (arith, common_steps)
 
 same_self : (kind : Kind) → same_kind kind kind ≡ true
-same_self Input = refl
-same_self Output = refl
-same_self Feature = refl
+same_self kind = grind (arith, common_steps)
 
 -- a fault does not show
 not_shown : (before : List ItemValue) (item : ItemValue) → IsSound before item → (fault : ParseFault) → shows before item fault ≡ false
@@ -89,8 +84,7 @@ not_shown before item s fault =
     elim (cases_Bool (shows before item fault)) [ inl e ↦ absurd (clean before item s.clean fault e) | inr e ↦ e ]
 
 true_and : (a b : Bool) → a ≡ true → (a && b) ≡ false → b ≡ false
-true_and true b e f = f
-true_and false b e f = cc
+true_and a b h1 h2 = grind (arith, common_steps)
 
 -- the parts of a data item that declares a field
 record IsNew (before : List ItemValue) (item : ItemValue) : Type 0 where
@@ -104,8 +98,7 @@ record IsNew (before : List ItemValue) (item : ItemValue) : Type 0 where
   alone : report_id before ≡ 0 → has_report_id before ≡ false
 
 not_false : (b : Bool) → not b ≡ true → b ≡ false
-not_false true e = cc
-not_false false e = refl
+not_false b h1 = grind (arith, common_steps)
 
 new_field : (before : List ItemValue) (item : ItemValue) → IsSound before item → is_field before item ≡ true → IsNew before item
 unfolding shows
@@ -166,18 +159,12 @@ unfolding usages_since_main
 no_usages page = refl
 
 not_true : (b : Bool) → not b ≡ false → b ≡ true
-not_true true e = refl
-not_true false e = cc
+not_true b h1 = grind (arith, common_steps)
 
 -- a half of a pair that waits is the latest item, or waited before
 waits : (t : Tag) (item : ItemValue) (half : Option ItemValue) (found : ItemValue) → still_unpaired t item half ≡ Some found
     → ((found ≡ item) × (t ≡ Skipped → ⊥)) ⊎ (half ≡ Some found)
-waits (Main m) item half found e = cc
-waits (Local local.UsageMinimum) item None found e = inl (cc, λ s. cc)
-waits (Local local.UsageMinimum) item (Some other) found e = cc
-waits (Local local.UsageMaximum) item None found e = inl (cc, λ s. cc)
-waits (Local local.UsageMaximum) item (Some other) found e = cc
-waits _ item half found e = inr e
+waits t item half found h1 = grind (arith, common_steps)
 
 half_data : (items : List ItemValue) (half : ItemValue) → AreSound items → unpaired items ≡ Some half → AreData half.bytes
 half_data [] half s e = absurd (none_yet half e)
@@ -265,8 +252,7 @@ field_limits before item s e =
     )
 
 of_data : (kind : Kind) (t : Tag) → is_data_of kind t ≡ true → is_data t ≡ true
-of_data kind (Main (Data other)) e = refl
-of_data kind _ e = cc
+of_data kind t h1 = grind (arith, common_steps)
 
 bits_small : (kind : Kind) (id : ℕ) (items : List ItemValue) → AreSound items → report_bits kind id items ≤ 2 ^ 20 * length items
 unfolding report_bits
@@ -283,13 +269,7 @@ bits_small kind id (item ∷ before) s =
 apart_by : (t : Tag) (before : List ItemValue) (item : ItemValue) → tag item ≡ t → mixes_ids t before ≡ false
     → (has_bare_data before ≡ true → has_report_id before ≡ false) → has_bare_data (item ∷ before) ≡ true → has_report_id (item ∷ before) ≡ false
 unfolding has_bare_data
-apart_by (Main (Data kind)) before item e m older b =
-    elim (cases_Bool (report_id before == 0)) [
-      | inl z ↦ rw e (true_and _ _ z m)
-      | inr z ↦ rw e (older (rw (e, z) at b))
-    ]
-apart_by (Global ReportId) before item e m older b = absurd (let b' : has_bare_data before ≡ true = (rw e at b) in cc)
-apart_by _ before item e m older b = rw e (older (rw e at b))
+apart_by t before item h1 h2 h3 h4 = grind (arith, common_steps)
 
 -- what holds after the items of a text without a fault
 record Holds (items : List ItemValue) : Type 0 where

@@ -1,11 +1,12 @@
 //! A text that is parsed for more than its fields, in one walk over its items.
 
-ghost use Rattle.std.specs.Prelude.{◌≡◌, ◌≢◌, ◌≤◌, ℕ, List, [], ◌∷◌, length, OnOk, IfOk, IfErr};
+ghost use Rattle.std.specs.Prelude.{◌≡◌, ◌≢◌, ◌≤◌, ℕ, IsTrue, List, [], ◌∷◌, length, OnOk, OnErr, IfOk, IfErr};
 ghost use Rattle.descriptor_parse.specs.Items.{ItemValue};
 ghost use Rattle.descriptor_parse.specs.ItemViews.{item_view};
 ghost use Rattle.descriptor_parse.specs.Faults.{IsFaultless, all_items};
 ghost use Rattle.descriptor_parse.specs.Descriptor.{Describes};
-ghost use Rattle.descriptor_parse.specs.Beside.{IsRefusal};
+ghost use Rattle.descriptor_parse.specs.Tags.{tag_of};
+ghost use Rattle.descriptor_parse.specs.Beside.{IsRefusal, wants_beside};
 ghost use Rattle.descriptor_parse.specs.representation.StateRefines.{StateRefines};
 
 use crate::descriptor::Descriptor;
@@ -20,11 +21,13 @@ pub trait Beside {
     /// It stands for the items before, newest first.
     ghost refines: { List ItemValue → Self → Type 0 };
 
-    /// Takes an item, after those that this state stands for.
+    /// Takes an item, after those that this state stands for. Memory is wanted only at a data item, a Collection, a Push, and an
+    /// item that the parser skips.
     fn take(&mut self, item: &Item<'_>, before: &State) -> Result<(), AllocError>
         requires few { item.now.prefix ≢ 254 → length item.now.bytes.now ≤ 4 }
         requires not_three { item.now.prefix ≢ 254 → length item.now.bytes.now ≢ 3 }
-        ensures { OnOk result ((items : List ItemValue) → StateRefines items before.now → refines items self.old → refines (item_view item.now ∷ items) self.new) };
+        ensures taken { OnOk result ((items : List ItemValue) → StateRefines items before.now → refines items self.old → refines (item_view item.now ∷ items) self.new) }
+        ensures refused { OnErr result (IsTrue (wants_beside (tag_of item.now.prefix))) };
 }
 
 /// Why a text is not parsed.
@@ -37,6 +40,8 @@ pub enum Refusal {
 }
 
 /// Parses a report descriptor as [`parse`](crate::parse) does, and gives each item to what is kept beside the fields.
+///
+/// A fault of an item comes before the memory that was wanted for it beside.
 pub fn parse_beside<B: Beside>(
     alloc: Global,
     text: &[u8],
@@ -51,12 +56,13 @@ pub fn parse_beside<B: Beside>(
     let mut at = 0;
     let mut rest = text;
     while let Some((item, after, _)) = cut(at, rest) {
-        if beside.take(&item, &state).is_err() {
-            return Err(Refusal::Memory);
-        }
+        let kept = beside.take(&item, &state);
         match take_item(&mut state, &item, rest.len() - after.len()) {
             Ok(offset) => at = offset,
             Err(error) => return Err(Refusal::Parse(error)),
+        }
+        if kept.is_err() {
+            return Err(Refusal::Memory);
         }
         rest = after;
     }

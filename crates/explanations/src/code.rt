@@ -22,67 +22,45 @@ fn usage_name(usage: u32) -> Option<&'static str> {
     None
 }
 
-/// A usage, its page in the high 16 bits.
-#[derive(Drop)]
-pub(crate) struct ShownUsage(pub(crate) u32);
-
-impl fmt::Display for ShownUsage {
-    fn fmt<W: fmt::Write>(&self, f: &mut fmt::Formatter<W>) -> fmt::Result {
-        match usage_name(self.0) {
-            Some(name) => f.write_str(name),
-            None => {
-                let usage = HexWord(self.0);
-                write!(f, "usage {usage}")
-            }
+/// Tells a usage, its page in the high 16 bits.
+pub(crate) fn tell_usage<W: fmt::Write>(f: &mut fmt::Formatter<W>, usage: u32) -> fmt::Result {
+    match usage_name(usage) {
+        Some(name) => f.write_str(name),
+        None => {
+            let usage = HexWord(usage);
+            write!(f, "usage {usage}")
         }
     }
 }
 
-/// A code of a keymap.
-#[derive(Drop)]
-pub(crate) struct ShownCode(pub(crate) u16);
-
-impl fmt::Display for ShownCode {
-    fn fmt<W: fmt::Write>(&self, f: &mut fmt::Formatter<W>) -> fmt::Result {
-        let code = self.0;
-        match code {
-            0x0000 => f.write_str("nothing"),
-            0x0001 => f.write_str("what a lower layer says"),
-            0x4000..=0x43FF => {
-                let usage = ShownUsage(0xC_0000 + (code % 0x1000) as u32);
-                write!(f, "{usage}")
-            }
-            0x5001..=0x5003 => {
-                let layer = code % 0x1000;
-                write!(f, "layer {layer} while held")
-            }
-            _ => {
-                let usage = ShownUsage(0x7_0000 + code as u32);
-                write!(f, "{usage}")
-            }
+/// Tells a code of a keymap.
+pub(crate) fn tell_code<W: fmt::Write>(f: &mut fmt::Formatter<W>, code: u16) -> fmt::Result {
+    match code {
+        0x0000 => f.write_str("nothing"),
+        0x0001 => f.write_str("what a lower layer says"),
+        0x4000..=0x43FF => tell_usage(f, 0xC_0000 + (code % 0x1000) as u32),
+        0x5001..=0x5003 => {
+            let layer = code % 0x1000;
+            write!(f, "layer {layer} while held")
         }
+        _ => tell_usage(f, 0x7_0000 + code as u32),
     }
 }
 
-/// The word of a command: its operation, layer, key and code.
-#[derive(Drop)]
-pub(crate) struct ShownCommand(pub(crate) u32);
-
-impl fmt::Display for ShownCommand {
-    fn fmt<W: fmt::Write>(&self, f: &mut fmt::Formatter<W>) -> fmt::Result {
-        if Command::from_word(self.0).is_none() {
-            let word = HexWord(self.0);
-            return write!(f, "a word that is no command, {word}");
+/// Tells the word of a command: its operation, layer, key and code.
+pub(crate) fn tell_command<W: fmt::Write>(f: &mut fmt::Formatter<W>, word: u32) -> fmt::Result {
+    if Command::from_word(word).is_none() {
+        let word = HexWord(word);
+        return write!(f, "a word that is no command, {word}");
+    }
+    let [low, high, key, top] = word.to_le_bytes();
+    let layer = top % 16;
+    match top / 16 {
+        1 => {
+            write!(f, "layer {layer}, key {key} = ")?;
+            tell_code(f, u16::from_le_bytes([low, high]))
         }
-        let [low, high, key, top] = self.0.to_le_bytes();
-        let layer = top % 16;
-        match top / 16 {
-            1 => {
-                let code = ShownCode(u16::from_le_bytes([low, high]));
-                write!(f, "layer {layer}, key {key} = {code}")
-            }
-            2 => write!(f, "layer {layer} = its default"),
-            _ => f.write_str("all layers = their default"),
-        }
+        2 => write!(f, "layer {layer} = its default"),
+        _ => f.write_str("all layers = their default"),
     }
 }

@@ -41,40 +41,36 @@ fn both(one: Scan, other: Scan) -> Scan {
     }
 }
 
-impl fmt::Display for KeyChanges {
-    fn fmt<W: fmt::Write>(&self, f: &mut fmt::Formatter<W>) -> fmt::Result {
-        let pressed = self.pressed != Scan::NONE;
-        let released = self.released != Scan::NONE;
-        if !pressed && !released {
-            return f.write_str("no key changes");
-        }
-        if released {
-            let keys = KeyNumbers(self.released);
-            write!(f, "released:{keys}")?;
-        }
-        if pressed && released {
-            f.write_str("; ")?;
-        }
-        if pressed {
-            let keys = KeyNumbers(self.pressed);
-            write!(f, "pressed:{keys}")?;
-        }
-        Ok(())
+/// Tells the changes of keys.
+pub(crate) fn tell_changes<W: fmt::Write>(
+    f: &mut fmt::Formatter<W>,
+    changes: KeyChanges,
+) -> fmt::Result {
+    let pressed = changes.pressed != Scan::NONE;
+    let released = changes.released != Scan::NONE;
+    if !pressed && !released {
+        return f.write_str("no key changes");
     }
+    if released {
+        tell_keys(f, "released:", changes.released)?;
+    }
+    if pressed && released {
+        f.write_str("; ")?;
+    }
+    if pressed {
+        tell_keys(f, "pressed:", changes.pressed)?;
+    }
+    Ok(())
 }
 
-/// The numbers of keys, each after a space.
-#[derive(Drop)]
-struct KeyNumbers(Scan);
-
-impl fmt::Display for KeyNumbers {
-    fn fmt<W: fmt::Write>(&self, f: &mut fmt::Formatter<W>) -> fmt::Result {
-        let mut first = true;
-        for key in self.0.keys() {
-            f.write_str(if first { " " } else { ", " })?;
-            write!(f, "key {key}")?;
-            first = false;
-        }
-        Ok(())
+/// Tells the numbers of keys, behind a word.
+fn tell_keys<W: fmt::Write>(f: &mut fmt::Formatter<W>, word: &str, keys: Scan) -> fmt::Result {
+    f.write_str(word)?;
+    let mut first = true;
+    for key in keys.keys() {
+        f.write_str(if first { " " } else { ", " })?;
+        write!(f, "key {key}")?;
+        first = false;
     }
+    Ok(())
 }

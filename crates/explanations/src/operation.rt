@@ -1,6 +1,6 @@
 //! The operations of the flash work.
 
-use crate::code::ShownCommand;
+use crate::code::tell_command;
 use kbsim::Operation as Asked;
 use records::{Slot, classify};
 use std::fmt;
@@ -43,21 +43,24 @@ impl Operation {
     }
 }
 
-impl fmt::Display for Operation {
-    fn fmt<W: fmt::Write>(&self, f: &mut fmt::Formatter<W>) -> fmt::Result {
-        match self {
-            Operation::Erase { page } => write!(f, "erase of page {page}"),
-            Operation::Header { page, number } => {
-                write!(f, "header of page {page}, sequence number {number}")
-            }
-            Operation::Copy { page, slot, word } => {
-                let command = ShownCommand(*word);
-                write!(f, "copy to page {page}, slot {slot}: {command}")
-            }
-            Operation::Record { page, slot, word } => {
-                let command = ShownCommand(*word);
-                write!(f, "record in page {page}, slot {slot}: {command}")
-            }
+/// Tells an operation.
+pub(crate) fn tell_operation<W: fmt::Write>(
+    f: &mut fmt::Formatter<W>,
+    operation: &Operation,
+) -> fmt::Result {
+    match operation {
+        Operation::Erase { page } => write!(f, "erase of page {page}"),
+        Operation::Header { page, number } => write!(
+            f,
+            "header of page {page}, sequence number {number}"
+        ),
+        Operation::Copy { page, slot, word } => {
+            write!(f, "copy to page {page}, slot {slot}: ")?;
+            tell_command(f, *word)
+        }
+        Operation::Record { page, slot, word } => {
+            write!(f, "record in page {page}, slot {slot}: ")?;
+            tell_command(f, *word)
         }
     }
 }
@@ -99,27 +102,21 @@ impl Made {
     }
 }
 
-/// The operations of a whole command.
-#[derive(Drop)]
-pub(crate) struct AllMade<'a>(pub(crate) &'a Made);
-
-impl fmt::Display for AllMade<'_> {
-    fn fmt<W: fmt::Write>(&self, f: &mut fmt::Formatter<W>) -> fmt::Result {
-        let made = self.0;
-        if let Some(page) = made.erased {
-            write!(f, "erase of page {page}, ")?;
-        }
-        match made.copies {
-            0 => {}
-            1 => f.write_str("1 copy, ")?,
-            copies => write!(f, "{copies} copies, ")?,
-        }
-        if let Some(page) = made.header {
-            write!(f, "header of page {page}, ")?;
-        }
-        match made.last {
-            Some(operation) => write!(f, "{operation}"),
-            None => f.write_str("no operation"),
-        }
+/// Tells the operations of a whole command.
+pub(crate) fn tell_all<W: fmt::Write>(f: &mut fmt::Formatter<W>, made: &Made) -> fmt::Result {
+    if let Some(page) = made.erased {
+        write!(f, "erase of page {page}, ")?;
+    }
+    match made.copies {
+        0 => {}
+        1 => f.write_str("1 copy, ")?,
+        copies => write!(f, "{copies} copies, ")?,
+    }
+    if let Some(page) = made.header {
+        write!(f, "header of page {page}, ")?;
+    }
+    match &made.last {
+        Some(operation) => tell_operation(f, operation),
+        None => f.write_str("no operation"),
     }
 }

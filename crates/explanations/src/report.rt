@@ -1,41 +1,30 @@
 //! What the host reads in a report.
 
-use crate::code::ShownUsage;
+use crate::code::tell_usage;
 use kbsim::Reading;
 use std::fmt;
 
-/// What the host makes of a report.
-#[derive(Drop)]
-pub(crate) struct ShownReading<'a>(pub(crate) &'a Reading);
-
-impl fmt::Display for ShownReading<'_> {
-    fn fmt<W: fmt::Write>(&self, f: &mut fmt::Formatter<W>) -> fmt::Result {
-        match self.0 {
-            Reading::Usages(usages) if usages.as_slice().is_empty() => f.write_str(
-                "the host reads that nothing is pressed",
-            ),
-            Reading::Usages(usages) => {
-                let usages = ShownUsages(usages.as_slice());
-                write!(f, "the host reads {usages}")
-            }
-            _ => f.write_str("the host has fetched no report descriptor to read it by"),
-        }
+/// Tells what the host makes of a report.
+pub(crate) fn tell_reading<W: fmt::Write>(
+    f: &mut fmt::Formatter<W>,
+    reading: &Reading,
+) -> fmt::Result {
+    match reading {
+        Reading::Usages(usages) if usages.as_slice().is_empty() => f.write_str(
+            "the host reads that nothing is pressed",
+        ),
+        Reading::Usages(usages) => tell_usages(f, usages.as_slice()),
+        _ => f.write_str("the host has fetched no report descriptor to read it by"),
     }
 }
 
-/// Usages by their names.
-#[derive(Drop)]
-struct ShownUsages<'a>(&'a [u32]);
-
-impl fmt::Display for ShownUsages<'_> {
-    fn fmt<W: fmt::Write>(&self, f: &mut fmt::Formatter<W>) -> fmt::Result {
-        let mut first = true;
-        for usage in self.0 {
-            let usage = ShownUsage(*usage);
-            f.write_str(if first { "" } else { "; " })?;
-            write!(f, "{usage}")?;
-            first = false;
-        }
-        Ok(())
+/// Tells usages by their names.
+fn tell_usages<W: fmt::Write>(f: &mut fmt::Formatter<W>, usages: &[u32]) -> fmt::Result {
+    let mut before = "the host reads ";
+    for usage in usages {
+        f.write_str(before)?;
+        tell_usage(f, *usage)?;
+        before = "; ";
     }
+    Ok(())
 }

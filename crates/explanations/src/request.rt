@@ -2,29 +2,27 @@
 
 use std::fmt;
 
-/// What a SETUP packet asks for (USB 2.0 section 9.4, HID 1.11 section 7).
-#[derive(Drop)]
-pub(crate) struct ShownRequest(pub(crate) [u8; 8]);
-
-impl fmt::Display for ShownRequest {
-    fn fmt<W: fmt::Write>(&self, f: &mut fmt::Formatter<W>) -> fmt::Result {
-        let [kind, code, low, high, _, _, length_low, length_high] = self.0;
-        let name = name_of(kind, code);
-        let value = ShownValue { name, low, high };
-        let length = u16::from_le_bytes([length_low, length_high]);
-        match name {
-            "" => write!(
-                f,
-                "request {code:02x} of type {kind:02x}, which neither USB nor HID has"
-            )?,
-            _ => write!(f, "{name}{value}")?,
+/// Tells what a SETUP packet asks for (USB 2.0 section 9.4, HID 1.11 section 7).
+pub(crate) fn tell_request<W: fmt::Write>(
+    f: &mut fmt::Formatter<W>,
+    packet: [u8; 8],
+) -> fmt::Result {
+    let [kind, code, low, high, _, _, length_low, length_high] = packet;
+    match name_of(kind, code) {
+        "" => write!(
+            f,
+            "request {code:02x} of type {kind:02x}, which neither USB nor HID has"
+        )?,
+        name => {
+            f.write_str(name)?;
+            tell_value(f, name, low, high)?;
         }
-        match length {
-            0 => Ok(()),
-            1 => f.write_str(", 1 byte"),
-            _ if kind >= 0x80 => write!(f, ", up to {length} bytes"),
-            _ => write!(f, ", {length} bytes"),
-        }
+    }
+    match u16::from_le_bytes([length_low, length_high]) {
+        0 => Ok(()),
+        1 => f.write_str(", 1 byte"),
+        length if kind >= 0x80 => write!(f, ", up to {length} bytes"),
+        length => write!(f, ", {length} bytes"),
     }
 }
 
@@ -52,42 +50,30 @@ fn name_of(kind: u8, code: u8) -> &'static str {
     }
 }
 
-/// What wValue says in a request of this name.
-#[derive(Drop)]
-struct ShownValue {
-    name: &'static str,
+/// Tells what wValue says in a request of this name.
+fn tell_value<W: fmt::Write>(
+    f: &mut fmt::Formatter<W>,
+    name: &str,
     low: u8,
     high: u8,
-}
-
-impl fmt::Display for ShownValue {
-    fn fmt<W: fmt::Write>(&self, f: &mut fmt::Formatter<W>) -> fmt::Result {
-        let low = self.low;
-        let high = self.high;
-        match self.name {
-            "GET_DESCRIPTOR" | "SET_DESCRIPTOR" => {
-                let descriptor = descriptor(high);
-                match low {
-                    0 => write!(f, ", {descriptor}"),
-                    _ => write!(f, ", {descriptor} {low}"),
-                }
+) -> fmt::Result {
+    match name {
+        "GET_DESCRIPTOR" | "SET_DESCRIPTOR" => {
+            let descriptor = descriptor(high);
+            match low {
+                0 => write!(f, ", {descriptor}"),
+                _ => write!(f, ", {descriptor} {low}"),
             }
-            "GET_REPORT" | "SET_REPORT" => {
-                let kind = report_type(high);
-                write!(f, ", {kind} report {low}")
-            }
-            "GET_IDLE" => write!(f, " of report {low}"),
-            "SET_IDLE" => {
-                let idle = Idle {
-                    id: low,
-                    units: high,
-                };
-                write!(f, "{idle}")
-            }
-            "SET_PROTOCOL" => f.write_str(protocol(low)),
-            "SET_ADDRESS" | "SET_CONFIGURATION" => write!(f, " {low}"),
-            _ => Ok(()),
         }
+        "GET_REPORT" | "SET_REPORT" => {
+            let kind = report_type(high);
+            write!(f, ", {kind} report {low}")
+        }
+        "GET_IDLE" => write!(f, " of report {low}"),
+        "SET_IDLE" => tell_idle(f, low, high),
+        "SET_PROTOCOL" => f.write_str(protocol(low)),
+        "SET_ADDRESS" | "SET_CONFIGURATION" => write!(f, " {low}"),
+        _ => Ok(()),
     }
 }
 
@@ -128,23 +114,15 @@ fn protocol(number: u8) -> &'static str {
     }
 }
 
-/// After which time a report is repeated (HID 1.11 section 7.2.4), in units of 4 ms; 0 stands for never, and report 0 for all.
-#[derive(Drop)]
-struct Idle {
-    id: u8,
-    units: u8,
-}
-
-impl fmt::Display for Idle {
-    fn fmt<W: fmt::Write>(&self, f: &mut fmt::Formatter<W>) -> fmt::Result {
-        let id = self.id;
-        match id {
-            0 => f.write_str(", all reports: ")?,
-            _ => write!(f, ", report {id}: ")?,
-        }
-        match 4 * self.units as u16 {
-            0 => f.write_str("sent only when they change"),
-            time => write!(f, "repeated after {time} ms"),
-        }
+/// Tells after which time a report is repeated (HID 1.11 section 7.2.4), in units of 4 ms; 0 stands for never, and report 0
+/// for all.
+fn tell_idle<W: fmt::Write>(f: &mut fmt::Formatter<W>, id: u8, units: u8) -> fmt::Result {
+    match id {
+        0 => f.write_str(", all reports: ")?,
+        _ => write!(f, ", report {id}: ")?,
+    }
+    match 4 * units as u16 {
+        0 => f.write_str("sent only when they change"),
+        time => write!(f, "repeated after {time} ms"),
     }
 }

@@ -1,6 +1,6 @@
 -- What an item changes in the extents and the unit of those after it.
-use Rattle.std.proofs.Common.{◌≡◌, ◌≢◌, ℕ, ◌-◌, ◌%◌, List, ◌∷◌, refl, sym, ◌∙◌, ap, ◌⊎◌, false, inl, inr}
-use Rattle.std.proofs.lemmas.Bool.{cases_Bool, eqb-true, ne_eqb}
+use Rattle.std.proofs.Common.{◌≡◌, ℕ, ◌-◌, ◌%◌, List, ◌∷◌, refl, sym, ◌∙◌, ap, ◌⊎◌, false, inl, inr}
+use Rattle.std.proofs.lemmas.Bool.{cases_Bool, eqb-true}
 use Rattle.std.specs.Prelude.{◌==◌}
 use Rattle.descriptor_parse.specs.declared.tag.Tag.{Tag}
 use Rattle.descriptor_parse.specs.declared.tag.Tag.TheVariants.{Global, Skipped}
@@ -54,16 +54,6 @@ extents_same item items o = rw (o.physical_min, o.physical_max, o.exponent, o.un
 
 pub extents_push : (item : ItemValue) (items : List ItemValue) → tag item ≡ Global Push → extents_of (item ∷ items) ≡ extents_of items
 extents_push item items e = extents_same item items (other item (Global Push) e (λ no. cc))
-
--- an item by its prefix
-skipped_none : (p : ℕ) → p ≢ 52 → p ≢ 68 → p ≢ 84 → p ≢ 100 → (item : ItemValue) (items : List ItemValue) → item.prefix - item.prefix % 4 ≡ p
-    → extents_by p item.bytes (extents_of items) ≡ extents_of (item ∷ items)
-skipped_none p a b c d item items q =
-    let a' : (p == 52) ≡ false = ne_eqb p 52 a in
-    let b' : (p == 68) ≡ false = ne_eqb p 68 b in
-    let c' : (p == 84) ≡ false = ne_eqb p 84 c in
-    let d' : (p == 100) ≡ false = ne_eqb p 100 d in
-    rw (q, a', b', c', d') refl
 
 skipped_one : (p : ℕ) → (p ≡ 52) ⊎ (p ≡ 68) ⊎ (p ≡ 84) ⊎ (p ≡ 100) → (item : ItemValue) (items : List ItemValue) → item.prefix - item.prefix % 4 ≡ p
     → extents_by p item.bytes (extents_of items) ≡ extents_of (item ∷ items)

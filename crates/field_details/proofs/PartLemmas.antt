@@ -1,7 +1,6 @@
 -- The ranges of items as parts of one list.
 use Rattle.std.proofs.Common.{◌≡◌, ℕ, zero, suc, ◌-◌, ◌<◌, ◌≤◌, List, [], ◌∷◌, ◌++◌, length, take, drop, refl, arith, sym, ◌∙◌, ap, Some, length-append, length-drop}
 use Rattle.std.proofs.lemmas.List.{take-append-le, drop-append-le}
-use Rattle.std.proofs.Math.Seq.{drop-append_seam, take-length}
 use Rattle.std.specs.Prelude.{slice_get}
 use Rattle.field_details.specs.declared.names.Part.{Part}
 use Rattle.field_details.specs.representation.Named.{IsPart, part_of, AreGiven, given_at}
@@ -18,16 +17,6 @@ part_longer ranges more part p =
     let from : part.start ≤ length ranges = omega (arith, p.0, p.1) in
     let size : part.end - part.start ≤ length (drop part.start ranges) = omega (arith, length-drop part.start ranges, p.0, p.1) in
     ap (take (part.end - part.start)) (drop-append-le part.start ranges more from) ∙ take-append-le (part.end - part.start) (drop part.start ranges) more size
-
--- what was added last
-pub last_part : (ranges own : List (ℕ × ℕ)) (part : Part) → part.start ≡ length ranges → part.end ≡ length (ranges ++ own)
-    → IsPart (ranges ++ own) part × (part_of (ranges ++ own) part ≡ own)
-last_part ranges own part start end =
-    let len = length-append ranges own in
-    let size : part.end - part.start ≡ length own = omega (arith, start, end, len) in (
-      (omega (arith, start, end, len), omega (arith, end)),
-      rw (size, start) (ap (take (length own)) (drop-append_seam ranges own) ∙ take-length own),
-    )
 
 -- ---- all parts
 

@@ -1,9 +1,10 @@
 //! The Global items that the parser of fields skips (HID 1.11, 6.2.2.7).
 
-ghost use Rattle.std.specs.Prelude.{◌≡◌, ◌≢◌, ◌-◌, ◌%◌, ◌≤◌, List, ◌∷◌, OnOk, length};
+ghost use Rattle.std.specs.Prelude.{◌≡◌, ◌≢◌, ◌-◌, ◌%◌, ◌≤◌, List, ◌∷◌, OnOk, OnErr, length};
 ghost use Rattle.descriptor_parse.specs.Items.{ItemValue};
 ghost use Rattle.descriptor_parse.specs.Tags.{tag_of};
 ghost use Rattle.descriptor_parse.specs.declared.tag.Tag.{Tag};
+ghost use Rattle.descriptor_parse.specs.declared.tag.GlobalTag.{GlobalTag};
 ghost use Rattle.descriptor_parse.specs.representation.StackRefines.{StackRefines};
 ghost use Rattle.field_details.specs.Extents.{signed_digit, power_of};
 ghost use Rattle.field_details.specs.representation.Relation.{greatest, extents_of, extents_by};
@@ -82,8 +83,9 @@ fn power(bytes: &[u8]) -> i64
 
 /// Takes a Global item that the parser of fields reads.
 pub(crate) fn take_global(extents: &mut Stack<Extents>, tag: GlobalTag) -> Result<(), AllocError>
-    ensures { OnOk result ((before : List ItemValue) (item : ItemValue) → tag_of item.prefix ≡ Tag.Global tag
+    ensures taken { OnOk result ((before : List ItemValue) (item : ItemValue) → tag_of item.prefix ≡ Tag.Global tag
         → StackRefines extents_of before extents.old → StackRefines extents_of (item ∷ before) extents.new) }
+    ensures refused { OnErr result (tag ≡ GlobalTag.Push) }
 {
     match tag {
         GlobalTag::Push => extents.save()?,

@@ -1,9 +1,10 @@
 //! The walk over the items of a text, which keeps what is in force beside the parser.
 
-ghost use Rattle.std.specs.Prelude.{◌≡◌, ◌≢◌, ◌≤◌, List, [], ◌∷◌, OnOk, length, None, Some, option_map};
+ghost use Rattle.std.specs.Prelude.{◌≡◌, ◌≢◌, ◌≤◌, IsTrue, List, [], ◌∷◌, OnOk, OnErr, length, None, Some, option_map};
 ghost use Rattle.std.specs.Option.{option_or};
 ghost use Rattle.descriptor_parse.specs.Items.{ItemValue};
 ghost use Rattle.descriptor_parse.specs.Tags.{tag_of};
+ghost use Rattle.descriptor_parse.specs.Beside.{wants_beside};
 ghost use Rattle.descriptor_parse.specs.Globals.{unsigned};
 ghost use Rattle.descriptor_parse.specs.declared.tag.Tag.{Tag};
 ghost use Rattle.descriptor_parse.specs.declared.tag.MainTag.{MainTag};
@@ -98,8 +99,9 @@ impl Walk {
         value: u32,
         before: &State,
     ) -> Result<(), AllocError>
-        ensures { OnOk result ((items : List ItemValue) (item : ItemValue) → tag_of item.prefix ≡ Tag.Main tag → item.offset ≡ offset
+        ensures taken { OnOk result ((items : List ItemValue) (item : ItemValue) → tag_of item.prefix ≡ Tag.Main tag → item.offset ≡ offset
             → unsigned item.bytes ≡ value → StateRefines items before.now → WalkRefines items self.old → WalkRefines (item ∷ items) self.new) }
+        ensures refused { OnErr result (IsTrue (wants_beside (Tag.Main tag))) }
     {
         match tag {
             MainTag::Data(kind) => self.take_data(kind, offset, value, before),

@@ -27,8 +27,9 @@ fn put_bit(bytes: &mut [u8], bit: u64, one: bool)
     ensures there { bit < 8 * length bytes.old → report_bit bytes.new bit ≡ (if one then 1 else 0) }
     ensures others { (b : ℕ) → b ≢ bit → report_bit bytes.new b ≡ report_bit bytes.old b }
 {
-    let place = (bit / 8) as usize;
-    if place < bytes.len() {
+    // Compared before the cast, which loses bits where a `usize` has 32.
+    if bit / 8 < bytes.len() as u64 {
+        let place = (bit / 8) as usize;
         bytes[place] = with_bit(bytes[place], (bit % 8) as u8, one);
     }
 }

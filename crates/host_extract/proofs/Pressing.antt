@@ -11,14 +11,11 @@ use Rattle.std.proofs.lemmas.List.Sorted.{Contains-permutation, IsPermutation-sy
 use Rattle.std.proofs.lemmas.Map.Keys.{IsStrictlyIncreasing-dedup}
 use Rattle.host_extract.specs.declared.reading.Found.{Found}
 use Rattle.host_extract.specs.Pressed.{IsRead}
-use Rattle.host_extract.proofs.Readings.{read-left, read-right, read-cases, one-reading, none-read}
+use Rattle.host_extract.proofs.Readings.{read-left, read-right, read-cases, one-reading}
 
 -- the usages that are read with a value that is not 0, in any order
 abbrev pub Gathers : List Found → List ℕ → Type 0
 Gathers found usages = (u : ℕ) → Contains usages u ↔ IsRead found u
-
-pub gathers-none : Gathers [] []
-gathers-none u = ((λ (k, l, e). absurd (omega arith)), λ r. absurd (none-read u r))
 
 pub gathers-more : (found : List Found) (usages : List ℕ) (r : Found) → Gathers found usages → r.value ≢ pos 0 → Gathers (found ++ r ∷ []) (usages ++ r.usage ∷ [])
 gathers-more found usages r h n u = (

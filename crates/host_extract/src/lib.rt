@@ -28,7 +28,7 @@ pub mod theorems;
 
 pub use boot::BOOT_DESCRIPTOR;
 pub use error::ExtractError;
-pub use number::{number_at, window};
+pub use number::{byte_at, number_at};
 pub use places::value_at;
 pub use press::pressed;
 pub use read::extract;

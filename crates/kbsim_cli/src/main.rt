@@ -6,7 +6,6 @@
 //! arguments, its files and its exit status are only tested. `bin/kbsim` calls it.
 #![tactic(auto)]
 
-mod keep;
 mod parsing;
 mod program;
 mod running;

@@ -3,14 +3,12 @@
 ghost use Rattle.std.specs.Prelude.{◌≡◌, ◌≢◌, ◌<◌, ◌≤◌, ◌⊎◌, IfOk, IfErr, OnOk, OnErr};
 ghost use Rattle.clap.specs.Words.{kind_of};
 
-use crate::keep::{Keep, Place};
 use crate::parsing::{parse_from, print_descriptors};
 use crate::running::run_from;
 use crate::tell::tell_output;
 use clap::Error;
 use clap::error::ErrorKind;
-use command_line::{Request, Source, Start, read};
-use kbsim::{RunError, SimFlash};
+use command_line::{Request, read};
 use std::rt::{Env, Files};
 use std::{env, io};
 
@@ -34,48 +32,15 @@ pub fn status<R: Env + AllocGlobal + Files + Input + Print + Eprint>(rt: &R) -> 
     match read(rt.alloc(), words.as_slice()) {
         Ok(
             Request::Run {
-                start,
+                pages,
                 source,
-                save,
                 explain,
             },
-        ) => run(rt, start, source, save, explain),
+        ) => status_of(run_from(rt, pages, source, explain)),
         Ok(Request::Describe) => status_of(print_descriptors(rt)),
         Ok(Request::Parse { source }) => status_of(parse_from(rt, source)),
         Err(error) => refuse(rt, &error),
     }
-}
-
-/// Runs the script of a source, and keeps the flash's bytes in the file `save`, if one is named. With `explain` standard error
-/// says what each answer means.
-fn run<R: AllocGlobal + Files + Input + Print + Eprint>(
-    rt: &R,
-    start: Start<'_>,
-    source: Source<'_>,
-    save: Option<&str>,
-    explain: bool,
-) -> u8
-    ensures { (result ≡ DONE) ⊎ (result ≡ FAULT) }
-{
-    let ended = run_from(rt, start, source, explain);
-    finish(rt, ended, &mut Place { rt, path: save })
-}
-
-/// Keeps the flash's bytes after a run without a fault. The answer is the status.
-fn finish<R: Eprint, K: Keep>(rt: &R, ended: Result<SimFlash, RunError>, kept: &mut K) -> u8
-    ensures done { IfOk ended (λ flash. result ≡ DONE → K.keeps kept.old flash.image kept.new) }
-    ensures fault { OnErr ended (result ≡ FAULT) }
-    ensures untouched { OnErr ended (kept.new ≡ kept.old) }
-    ensures either { (result ≡ DONE) ⊎ (result ≡ FAULT) }
-{
-    let Ok(flash) = ended else {
-        return FAULT;
-    };
-    let Err(error) = kept.keep(flash.image()) else {
-        return DONE;
-    };
-    let _ = eprintln!(rt; "error: the flash can't be saved: {error}");
-    FAULT
 }
 
 /// The status of a subcommand that ended so.

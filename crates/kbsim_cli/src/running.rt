@@ -1,24 +1,26 @@
 //! Running a script.
 
-use crate::source::{Unread, opened, text_of};
+use crate::source::{Unread, text_of};
 use crate::tell::{tell, tell_output};
-use command_line::{Source, Start};
+use command_line::Source;
 use explanations::{Explainer, Tell};
-use kbsim::{RunError, SimFlash, blank_flash, image_flash, print_fault, run_on, run_with};
+use kbsim::{RunError, SimFlash, blank_flash, print_fault, run_on, run_with};
 use std::fmt::Display;
 use std::io;
 use std::rt::Files;
 
-/// Runs the script of a source on the flash that a run starts on. The answer is the flash after it. The line of a fault is
-/// the last one on standard output, and standard error says in a sentence what it is, and with `explain` what each answer
-/// means.
+/// Runs the script of a source on a blank flash of so many pages. The line of a fault is the last one on standard output, and
+/// standard error says in a sentence what it is, and with `explain` what each answer means.
 pub fn run_from<R: AllocGlobal + Files + Input + Print + Eprint>(
     rt: &R,
-    start: Start<'_>,
+    pages: usize,
     source: Source<'_>,
     explain: bool,
-) -> Result<SimFlash, RunError> {
-    let flash = flash_of(rt, start)?;
+) -> Result<(), RunError> {
+    let flash = match blank_flash(rt.alloc(), pages) {
+        Ok(flash) => flash,
+        Err(error) => return Err(put_and_tell(rt, error)),
+    };
     match text_of(rt, source) {
         Ok(text) => run_text(rt, flash, text.as_slice(), explain),
         Err(Unread::Closed) => Err(put(rt, RunError::Input)),
@@ -26,28 +28,13 @@ pub fn run_from<R: AllocGlobal + Files + Input + Print + Eprint>(
     }
 }
 
-/// The flash that a run starts on.
-fn flash_of<R: AllocGlobal + Files + Print + Eprint>(
-    rt: &R,
-    start: Start<'_>,
-) -> Result<SimFlash, RunError> {
-    let made = match start {
-        Start::Blank { pages } => blank_flash(rt.alloc(), pages),
-        Start::Image(path) => match opened(rt, path) {
-            Some(mut file) => image_flash(rt.alloc(), &mut file),
-            None => return Err(put(rt, RunError::Input)),
-        },
-    };
-    made.map_err(|error| put_and_tell(rt, error))
-}
-
-/// Runs a script on a flash. The answer is the flash after it.
+/// Runs a script on a flash.
 fn run_text<R: AllocGlobal + Print + Eprint>(
     rt: &R,
     flash: SimFlash,
     mut text: &[u8],
     explain: bool,
-) -> Result<SimFlash, RunError> {
+) -> Result<(), RunError> {
     let writer = &mut io::writer(rt);
     let ended = if explain {
         let mut explainer = Explainer::new(&flash, StandardError { rt });
@@ -55,12 +42,17 @@ fn run_text<R: AllocGlobal + Print + Eprint>(
     } else {
         run_on(rt.alloc(), flash, &mut text, writer)
     };
-    match &ended {
-        Ok(_) => {}
-        Err(RunError::Output) => tell_output(rt),
-        Err(error) => tell(rt, error),
+    match ended {
+        Ok(_) => Ok(()),
+        Err(RunError::Output) => {
+            tell_output(rt);
+            Err(RunError::Output)
+        }
+        Err(error) => {
+            tell(rt, &error);
+            Err(error)
+        }
     }
-    ended
 }
 
 /// Standard error, as a place of sentences.

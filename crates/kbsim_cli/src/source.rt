@@ -34,7 +34,7 @@ pub fn text_of<R: AllocGlobal + Files + Input + Eprint>(
 }
 
 /// A file that is open to be read; where it can't be opened, standard error says why.
-pub fn opened<R: Files + Eprint>(rt: &R, path: &str) -> Option<R::File> {
+fn opened<R: Files + Eprint>(rt: &R, path: &str) -> Option<R::File> {
     match fs::open(rt, path) {
         Ok(file) => Some(file),
         Err(error) => {

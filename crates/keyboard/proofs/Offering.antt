@@ -140,9 +140,6 @@ pub reported_answer : (now : Stage) (verdict : Verdict) (answer : EpAnswer) → 
 reported_answer now verdict answer a e = a ∙ ap (λ (s : Stage). verdict_answer s verdict) e
 
 module _ (defaults : DefaultCodes) where
-  nothing_changes : (entries : ℕ → ℕ → ℕ) (bytes : List ℕ) → slice_index bytes 0 ≡ 0 → changes_by defaults entries (command_of_bytes bytes) ≡ false
-  nothing_changes entries bytes z = rw z refl
-
   -- the verdict on a command while none works
   checked_with : (image bytes : List ℕ) (command : Command) (verdict : Verdict) (old new : KeyboardValue) → at_work old ≡ None → command_of_bytes bytes ≡ Ok command
       → CommandAnswer defaults image command (checked_answer verdict) → verdict ≡ verdict_reported (changes defaults (keymap defaults image) command) (checked_answer verdict)

@@ -53,10 +53,6 @@ not_failed work e f = cc
 slot_in_page : (old : List ℕ) (page slot : ℕ) (new : List ℕ) → OneSlot old page slot new → OnePage old page new
 slot_in_page old page slot new o = record { same_length = o.same_length; others = λ p s l n. o.others p s l (λ e f. n e) }
 
--- what each operation of a compaction asks of the flash
-same_page : (p q slot other word more : ℕ) → Program p slot word ≡ Program q other more → p ≡ q
-same_page p q slot other word more e = cc
-
 same_slot : (p q slot other word more : ℕ) → Program p slot word ≡ Program q other more → slot ≡ other
 same_slot p q slot other word more e = cc
 

@@ -1,4 +1,4 @@
-use Rattle.std.proofs.Common.{◌≡◌, ◌∙◌, ℕ, ◌+◌, ◌≤◌, refl, sym, ap, arith, List, [], ◌∷◌, ◌++◌, length, subst, inl, inr, None}
+use Rattle.std.proofs.Common.{◌≡◌, ◌∙◌, ℕ, ◌+◌, ◌≤◌, ◌<◌, ◌^◌, refl, sym, ap, arith, List, [], ◌∷◌, ◌++◌, length, subst, inl, inr, None}
 use Rattle.std.proofs.lemmas.List.{append-nil}
 use Rattle.layers.specs.Codes.{DefaultCodes}
 use Rattle.layers.specs.declared.command.Command.{Command}
@@ -11,7 +11,7 @@ use Rattle.page_turnover.specs.declared.log.stepping.Step.TheVariants.{Moved}
 use Rattle.page_turnover.specs.representation.Log.{Describes}
 use Rattle.page_turnover.specs.Words.{HasRoom}
 use Rattle.page_turnover.specs.Value.{LogValue, Unread, Holds, Task, Rest, Append, Wait, Copy, Seal}
-use Rattle.page_turnover.specs.Turn.{IsWaiting, IsPending, copies, offered, copied, with_copy, with_seal, target_page, next_seq}
+use Rattle.page_turnover.specs.Turn.{IsWaiting, IsPending, HasOffer, CanOffer, copies, offered, copied, with_copy, with_seal, target_page, next_seq}
 use Rattle.page_turnover.specs.representation.Turn.{UnderWay}
 use Rattle.page_turnover.specs.Steps.{StepsFor, Steps, Moves, Commits, EndsAs}
 use Rattle.page_turnover.proofs.WordLists.{words_none}
@@ -19,10 +19,11 @@ use Rattle.page_turnover.proofs.Endings.{waiting_count}
 use Rattle.keymap_store.specs.declared.store.Job.{Job}
 use Rattle.keymap_store.specs.declared.store.Job.TheVariants.{Resting, Appending, Turning}
 use Rattle.keymap_store.specs.Keymap.{entries_of}
+use Rattle.keymap_store.specs.Left.{target_of}
 use Rattle.keymap_store.specs.Store.{working}
 use Rattle.keymap_store.specs.representation.Store.{OffersBelow, JobIs}
 use Rattle.keymap_store.specs.Next.{all_copies, next_task, with_task}
-use Rattle.keymap_store.specs.representation.Offers.{CanOfferIfWaiting, IsOffered}
+use Rattle.keymap_store.specs.representation.Offers.{CanGoOn, IsOffered}
 use Rattle.keymap_store.proofs.NextTasks.{IsAfter, copy_after, no_copy_after, next_task-copy, next_task-seal}
 use Rattle.keymap_store.proofs.Keymaps.{keymap_copied}
 
@@ -39,6 +40,37 @@ seal_pending (Append word) w = absurd w
 seal_pending (Wait target) w = tt
 seal_pending (Copy target word) w = absurd w
 seal_pending (Seal target) w = absurd w
+
+pub go_on_copy : (task : Task) → CanGoOn task → IsWaiting task → CanOffer task
+go_on_copy Rest g w = absurd w
+go_on_copy (Append word) g w = absurd w
+go_on_copy (Wait target) g w = g
+go_on_copy (Copy target word) g w = absurd w
+go_on_copy (Seal target) g w = absurd w
+
+pub copy_target : (task : Task) (word : ℕ) → target_of (with_copy task word) ≡ target_of task
+copy_target Rest word = refl
+copy_target (Append other) word = refl
+copy_target (Wait target) word = refl
+copy_target (Copy target other) word = refl
+copy_target (Seal target) word = refl
+
+pub seal_target : (task : Task) → target_of (with_seal task) ≡ target_of task
+seal_target Rest = refl
+seal_target (Append word) = refl
+seal_target (Wait target) = refl
+seal_target (Copy target word) = refl
+seal_target (Seal target) = refl
+
+copy_under_way : (image : List ℕ) (task : Task) (word : ℕ) → CanOffer task → word < 2 ^ 32 → UnderWay image task → UnderWay image (with_copy task word)
+copy_under_way image Rest word o fits u = absurd o
+copy_under_way image (Append other) word o fits u = absurd o
+copy_under_way image (Wait target) word o fits u = record { turning = u; few = o; fits = fits }
+copy_under_way image (Copy target other) word o fits u = absurd o
+copy_under_way image (Seal target) word o fits u = absurd o
+
+pub copy_described : (image : List ℕ) (log : LogValue) (word : ℕ) → CanOffer log.task → word < 2 ^ 32 → Describes image log → Describes image (record log { task = with_copy log.task word })
+copy_described image log word o fits d = record { whole = d.whole; active_is = d.active_is; unsound_is = d.unsound_is; task_is = copy_under_way image log.task word o fits d.task_is }
 
 module _ (defaults : DefaultCodes) where
   -- the next entry that differs is offered, or the commit header where there is none
@@ -65,9 +97,9 @@ module _ (defaults : DefaultCodes) where
   pending_unless entries from image (Seal target) o n = tt
 
   -- fewer than 511 copies are made, since there are 384 places
-  pub few_copies : (entries : ℕ → ℕ → ℕ) (from : ℕ) (image : List ℕ) (task : Task) → from ≤ places → UnderWay image task → OffersBelow defaults entries from image task → CanOfferIfWaiting task
-  few_copies entries from image Rest l u o = tt
-  few_copies entries from image (Append word) l u o = tt
+  pub few_copies : (entries : ℕ → ℕ → ℕ) (from : ℕ) (image : List ℕ) (task : Task) → from ≤ places → UnderWay image task → OffersBelow defaults entries from image task → CanGoOn task
+  few_copies entries from image Rest l u o = absurd o
+  few_copies entries from image (Append word) l u o = absurd o
   few_copies entries from image (Wait target) l u o =
       let count : length (copies image (Wait target)) ≡ copied target = waiting_count image target u.target_is in
       let few : length (copies image (Wait target)) ≤ from = AreCopies-length defaults entries from (copies image (Wait target)) o in
@@ -128,17 +160,6 @@ module _ (defaults : DefaultCodes) where
   -- a new compaction has offered nothing
   pub nothing_offered : (entries : ℕ → ℕ → ℕ) (image : List ℕ) → OffersBelow defaults entries 0 image (Wait Unread)
   nothing_offered entries image = rw (words_none image (target_page image)) (AreCopies-start defaults entries)
-
-  -- a command works exactly where the log has something under way
-  pub resting : (image : List ℕ) (log : LogValue) (job : Job) → JobIs defaults image log job → log.task ≡ Rest → working job ≡ None
-  resting image log Resting j e = refl
-  resting image log (Appending command) j e = let f = j.task_is in cc
-  resting image log (Turning command from) j e = let O : Task → Type 0 = λ t. OffersBelow defaults (entries_of defaults image) from image t in absurd (subst O e j.offers)
-
-  pub task_rests : (image : List ℕ) (log : LogValue) (job : Job) → JobIs defaults image log job → working job ≡ None → log.task ≡ Rest
-  task_rests image log Resting j e = j
-  task_rests image log (Appending command) j e = cc
-  task_rests image log (Turning command from) j e = cc
 
   -- what the log has after it was offered something
   offered_is : (entries : ℕ → ℕ → ℕ) (image : List ℕ) (task : Task) (from place word : ℕ) (command : Command) → IsWaiting task → UnderWay image task → OffersBelow defaults entries from image task → IsNextChanged defaults entries from place command → word ≡ word_of command → with_copy task word ≡ next_task defaults entries task

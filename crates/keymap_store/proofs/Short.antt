@@ -13,7 +13,7 @@ use Rattle.page_turnover.specs.Value.{Task, Rest, Append, Wait, Copy, Seal}
 use Rattle.page_turnover.specs.Turn.{copies, HasShortWord}
 use Rattle.keymap_store.specs.representation.Store.{OffersBelow}
 
-word_short : (command : Command) → IsCommand command → word_of command < 2 ^ 31
+pub word_short : (command : Command) → IsCommand command → word_of command < 2 ^ 31
 word_short (SetKey layer key code) is = let small : code < 2 ^ 16 = is_code-lt code is.2 in omega (arith, is.0, is.1, small)
 word_short (ResetLayer layer) is = omega (arith, is)
 word_short ResetAll is = omega arith

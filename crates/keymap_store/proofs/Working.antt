@@ -25,7 +25,7 @@ use Rattle.keymap_store.specs.declared.store.Job.TheVariants.{Resting, Appending
 use Rattle.keymap_store.specs.Value.{StoreValue}
 use Rattle.keymap_store.specs.Keymap.{entries_of}
 use Rattle.keymap_store.specs.representation.Store.{Mirrors, JobIs, IsAppending, IsTurning, OffersBelow}
-use Rattle.keymap_store.specs.representation.Offers.{CanOfferIfWaiting}
+use Rattle.keymap_store.specs.representation.Offers.{CanGoOn}
 use Rattle.keymap_store.specs.Turnovers.{Prepares, TurnsOver}
 use Rattle.keymap_store.specs.Works.{IsPlacedAt}
 use Rattle.keymap_store.proofs.Keymaps.{entries_of-keeps, keymap_recorded, keymap_kept}
@@ -101,7 +101,7 @@ module _ (defaults : DefaultCodes) where
       }
 
   -- a compaction can offer one copy more
-  pub turn_few : (image : List ℕ) (store : StoreValue) (command : Command) (from : ℕ) → Mirrors defaults image store → store.job ≡ Turning command from → CanOfferIfWaiting store.log.task
+  pub turn_few : (image : List ℕ) (store : StoreValue) (command : Command) (from : ℕ) → Mirrors defaults image store → store.job ≡ Turning command from → CanGoOn store.log.task
   turn_few image store command from m e =
       let j = turning image store command from m e in
       few_copies defaults (entries_of defaults image) from image store.log.task j.within m.log_is.task_is j.offers

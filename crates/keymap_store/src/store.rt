@@ -8,13 +8,14 @@ ghost use Rattle.layers.specs.declared.command.Command.{Command};
 ghost use Rattle.layers.specs.Formats.{command_by_format};
 ghost use Rattle.layers.specs.Keymaps.{HasEntries, Refines};
 ghost use Rattle.page_turnover.specs.Active.{format};
-ghost use Rattle.page_turnover.specs.Turn.{IsPending};
 ghost use Rattle.page_turnover.specs.Usable.{IsUsable};
 ghost use Rattle.page_turnover.specs.representation.Log.{Describes};
 ghost use Rattle.keymap_store.specs.Keymap.{entries_of};
 ghost use Rattle.keymap_store.specs.representation.Store.{OffersBelow};
-ghost use Rattle.keymap_store.specs.representation.Offers.{CanOfferIfWaiting, IsOffered};
-ghost use Rattle.keymap_store.specs.Left.{target_of};
+ghost use Rattle.keymap_store.specs.representation.Offers.{CanGoOn, GoesOn};
+ghost use Rattle.page_turnover.specs.declared.log.stepping.Step.{Step};
+ghost use Rattle.page_turnover.specs.Next.{on_flash};
+ghost use Rattle.page_turnover.specs.Steps.{CountsAs};
 ghost use Rattle.keymap_store.specs.declared.store.Job.{Job};
 ghost use Rattle.keymap_store.specs.declared.store.Taken.{Taken};
 ghost use Rattle.keymap_store.specs.declared.store.Work.{Work};
@@ -102,8 +103,6 @@ impl<D: Defaults> StoreOf<D> {
     ghost use Rattle.keymap_store.specs.Operations.{operations_of};
     ghost use Rattle.keymap_store.specs.representation.Rest.{rest_of, TakesFirst};
     ghost use Rattle.page_turnover.specs.declared.operation.Operation.{Operation};
-    ghost use Rattle.page_turnover.specs.Next.{on_flash};
-    ghost use Rattle.page_turnover.specs.Steps.{CountsAs};
 
     /// Reads log and keymap of a flash, and changes nothing.
     pub fn mount<F: NorFlash>(flash: &F) -> StoreOf<D>
@@ -247,16 +246,13 @@ impl<D: Defaults> StoreOf<D> {
         ensures some { (result ≢ Work.Idle) × (result ≢ Work.Working) }
         ensures order { TakesFirst result (rest_of D.defaults (F.image flash.old) self.old) (rest_of D.defaults (F.image flash.new) self.new) }
     {
-        match self.log.step(flash) {
+        self.job = Job::Resting;
+        match self.log.step_append(flash) {
             Step::Committed => {
                 self.keymap.apply(command.command());
-                self.job = Job::Resting;
                 Work::Settled
             }
-            Step::Failed => {
-                self.job = Job::Resting;
-                Work::Failed
-            }
+            Step::Failed => Work::Failed,
             Step::Idle | Step::Moved => unreachable!(),
         }
     }
@@ -273,12 +269,8 @@ impl<D: Defaults> StoreOf<D> {
         ensures fewer { result ≡ Work.Working → left D.defaults (F.image flash.new) self.new + 1 ≡ left D.defaults (F.image flash.old) self.old }
         ensures order { TakesFirst result (rest_of D.defaults (F.image flash.old) self.old) (rest_of D.defaults (F.image flash.new) self.new) }
     {
-        let from = offer_next(&mut self.log, &self.keymap, from);
-        match self.log.step(flash) {
-            Step::Moved => {
-                go_on(&mut self.job, from);
-                Work::Working
-            }
+        match step_turn(&mut self.log, &self.keymap, &mut self.job, flash, from) {
+            Step::Moved => Work::Working,
             Step::Committed => {
                 self.log.begin_append(command.word());
                 self.job = Job::Appending(command);
@@ -303,28 +295,34 @@ fn go_on(job: &mut Job, from: u16)
     }
 }
 
-/// Offers a waiting compaction the next entry at or after a place that differs from the default, or its
-/// commit header where there is none, and says from which place on the next one is looked for.
-fn offer_next<D: Defaults>(log: &mut Log, keymap: &KeymapOf<D>, from: u16) -> u16
-    requires few { CanOfferIfWaiting log.old.task }
+/// Makes the next step of a compaction. One that waits is offered the next entry at or after a place that differs from the
+/// default, or its commit header where there is none; the job then looks for its next entry behind that one.
+#[inline(always)]
+fn step_turn<D: Defaults, F: NorFlash>(
+    log: &mut Log,
+    keymap: &KeymapOf<D>,
+    job: &mut Job,
+    flash: &mut F,
+    from: u16,
+) -> Step
+    requires describes { Describes (F.image flash.old) log.old }
+    requires goes_on { CanGoOn log.old.task }
     requires within { from ≤ ENTRIES }
-    ensures refines { (image : List ℕ) (entries : ℕ → ℕ → ℕ) → HasEntries entries keymap.now → Describes image log.old → OffersBelow D.defaults entries from image log.old.task
-        → IsOffered D.defaults entries image log.old log.new result }
-    ensures within { result ≤ ENTRIES }
-    ensures target { target_of log.new.task ≡ target_of log.old.task }
+    ensures steps { (entries : ℕ → ℕ → ℕ) (command : Command) → HasEntries entries keymap.now → OffersBelow D.defaults entries from (F.image flash.old) log.old.task → job.old ≡ Job.Turning command from
+        → GoesOn D.defaults entries command (F.image flash.old) log.old result (F.image flash.new) log.new job.new (F.is_faultless flash.old) (F.is_faultless flash.new) (λ operation. F.operates flash.old (on_flash operation) flash.new) }
+    ensures counts { CountsAs (result ≡ Step.Idle) (result ≡ Step.Failed) (F.operations flash.old) (F.operations flash.new) (F.faults flash.old) (F.faults flash.new) }
 {
     if !log.wants() {
-        return from;
+        return log.step_turn(flash);
     }
     match keymap.next_changed(from) {
         Some((place, command)) => {
-            let word = command.word();
-            log.offer_copy(word);
-            place + 1
+            go_on(job, place + 1);
+            log.step_copy(flash, command.word())
         }
         None => {
             log.seal();
-            from
+            log.step_turn(flash)
         }
     }
 }

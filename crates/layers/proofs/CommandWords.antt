@@ -1,8 +1,7 @@
 -- A command and its word.
-use Rattle.std.proofs.Common.{◌≡◌, ◌≢◌, ℕ, ◌+◌, ◌*◌, ◌/◌, ◌%◌, ◌^◌, ◌<◌, ◌≤◌, ◌==◌, ◌&&◌, not, nat_lt, nat_le, if◌then◌else◌, Bool, true, false, Ok, Err, List, [], ◌∷◌, get_or, bit_and, ◌⊎◌, inl, inr, subst, MatchOption, Option, Some, None, refl, arith, ◌∙◌, sym}
+use Rattle.std.proofs.Common.{◌≡◌, ◌≢◌, ℕ, ◌/◌, ◌%◌, ◌^◌, ◌<◌, ◌≤◌, ◌==◌, ◌&&◌, not, nat_lt, nat_le, if◌then◌else◌, Bool, true, false, Ok, Err, ◌⊎◌, inl, inr, subst, MatchOption, Option, Some, None, refl, arith, sym}
 use Rattle.std.proofs.lemmas.Bool.{and_parts, not-false, ltb-true, leb-true, eqb-true, cases_eq, lt-ltb}
 use Rattle.std.proofs.lemmas.Bool.Decides.{nat_tests}
-use Rattle.std.proofs.lemmas.Nat.{and_mask}
 use Rattle.layers.specs.Codes.{layers, keys, is_between, is_code}
 use Rattle.layers.specs.Commands.{IsCommand, unused_is_zero, command_read, command_with, command_of, word_of, word_with}
 use Rattle.layers.specs.representation.CommandWords.{command_at}
@@ -44,18 +43,6 @@ pub command_of_fields : (word op layer key code : ℕ) → op ≡ word / 2 ^ 28 
     → (if unused_is_zero op layer key code then result_ok (command_read op layer key code) else None) ≡ command_of word
 unfolding command_of
 command_of_fields word op layer key code o l k c = rw (o, l, k, c) refl
-
--- the command of a word, from its bytes
-pub command_of_bytes : (word : ℕ) (bytes : List ℕ) (code : ℕ) → word < 2 ^ 32 → bytes ≡ word % 256 ∷ word / 256 % 256 ∷ word / 65536 % 256 ∷ word / 16777216 % 256 ∷ []
-    → code ≡ get_or bytes 0 0 + get_or bytes 1 0 * 256
-    → (let op = get_or bytes 3 0 / 16 in let layer = bit_and (get_or bytes 3 0) 15 in let key = get_or bytes 2 0 in
-    (if unused_is_zero op layer key code then result_ok (command_read op layer key code) else None) ≡ command_of word)
-command_of_bytes word bytes code fits is e =
-    let o : get_or bytes 3 0 / 16 ≡ word / 2 ^ 28 = rw is (omega arith) in
-    let l : bit_and (get_or bytes 3 0) 15 ≡ word / 2 ^ 24 % 2 ^ 4 = rw is (and_mask _ 4 ∙ omega arith) in
-    let k : get_or bytes 2 0 ≡ word / 2 ^ 16 % 2 ^ 8 = rw is (omega arith) in
-    let f : code ≡ word % 2 ^ 16 = e ∙ rw is (omega arith) in
-    command_of_fields word _ _ _ _ o l k f
 
 result_if : (a b c d : Bool) (x v : Command) → result_ok (if a then Err BadOperation else (if b then Err BadLayer else (if c then Err BadKey else (if d then Err BadCode else Ok x)))) ≡ Some v → (a ≡ false) × (b ≡ false) × (c ≡ false) × (d ≡ false) × (x ≡ v)
 result_if true b c d x v e = cc
@@ -135,6 +122,28 @@ word_of_command word command e =
 pub exact_by : (word : ℕ) (o : Option Command) → command_of word ≡ o → MatchOption o ((c : Command) → IsCommand c → word_of c ≢ word) (λ c. IsCommand c × (word_of c ≡ word))
 exact_by word None e = λ c is w. let f : command_of word ≡ Some c = command_of_its_word c word (sym w) is in cc
 exact_by word (Some c) e = word_of_command word c e
+
+-- the command of a word, operation by operation
+pub read_set_key : (word layer key code : ℕ) → word / 2 ^ 28 ≡ 1 → layer ≡ word / 2 ^ 24 % 2 ^ 4 → key ≡ word / 2 ^ 16 % 2 ^ 8 → code ≡ word % 2 ^ 16 → result_ok (command_read 1 layer key code) ≡ command_of word
+read_set_key word layer key code o l k c = command_of_fields word 1 layer key code (sym o) l k c
+
+pub read_reset : (word layer : ℕ) → word / 2 ^ 28 ≡ 2 → word % 2 ^ 24 ≡ 0 → layer ≡ word / 2 ^ 24 % 2 ^ 4 → result_ok (command_read 2 layer 0 0) ≡ command_of word
+read_reset word layer o z l = command_of_fields word 2 layer 0 0 (sym o) l (omega arith) (omega arith)
+
+pub read_reset_all : (word : ℕ) → word / 2 ^ 28 ≡ 3 → word % 2 ^ 28 ≡ 0 → Some ResetAll ≡ command_of word
+read_reset_all word o z = command_of_fields word 3 0 0 0 (sym o) (omega arith) (omega arith) (omega arith)
+
+no_command : (word : ℕ) (command : Command) → IsCommand command → word_of command ≡ word → (word / 2 ^ 28 ≡ 1 → ⊥) → (word / 2 ^ 28 ≡ 2 → word % 2 ^ 24 ≡ 0 → ⊥) → (word / 2 ^ 28 ≡ 3 → word % 2 ^ 28 ≡ 0 → ⊥) → ⊥
+no_command word (SetKey layer key code) is w set reset all = let small : code < 2 ^ 16 = is_code-lt code is.2 in set (omega (arith, is.0, is.1, small, w))
+no_command word (ResetLayer layer) is w set reset all = reset (omega (arith, is, w)) (omega (arith, is, w))
+no_command word ResetAll is w set reset all = all (omega (arith, w)) (omega (arith, w))
+
+none_by : (word : ℕ) (o : Option Command) → command_of word ≡ o → (word / 2 ^ 28 ≡ 1 → ⊥) → (word / 2 ^ 28 ≡ 2 → word % 2 ^ 24 ≡ 0 → ⊥) → (word / 2 ^ 28 ≡ 3 → word % 2 ^ 28 ≡ 0 → ⊥) → None ≡ command_of word
+none_by word None e set reset all = sym e
+none_by word (Some command) e set reset all = let f = word_of_command word command e in absurd (no_command word command f.0 f.1 set reset all)
+
+pub read_none : (word : ℕ) → (word / 2 ^ 28 ≡ 1 → ⊥) → (word / 2 ^ 28 ≡ 2 → word % 2 ^ 24 ≡ 0 → ⊥) → (word / 2 ^ 28 ≡ 3 → word % 2 ^ 28 ≡ 0 → ⊥) → None ≡ command_of word
+read_none word set reset all = none_by word (command_of word) refl set reset all
 
 -- a word that stands for a command has its fields
 pub at_from : (word : ℕ) (command : Command) → command_of word ≡ Some command → command_at word ≡ command

@@ -2,7 +2,7 @@
 
 ghost use Rattle.std.specs.Prelude.{◌≡◌, ◌≢◌, ◌<◌, MatchOption, IfOk, IfSome, Some};
 ghost use Rattle.layers.specs.Formats.{code_of_format_1, command_of_format_1};
-ghost use Rattle.layers.specs.Commands.{command_read, command_of, unused_is_zero, word_of, word_with, IsCommand};
+ghost use Rattle.layers.specs.Commands.{command_read, command_of, word_of, word_with, IsCommand};
 ghost use Rattle.layers.specs.declared.command.Command.{Command};
 
 use crate::{Code, KeyNo, KeymapError, LayerNo};
@@ -52,17 +52,20 @@ impl Command {
     /// 23 the key, 0 to 15 the code, and 0 in what the operation does not use. None where the word
     /// is that of no command.
     #[inline(always)]
+    #[tactic(auto, using(crate::proofs::CommandWords::read_none, crate::proofs::CommandWords::read_reset_all, crate::proofs::CommandWords::exact_by))]
     pub fn from_word(word: u32) -> Option<Command>
         ensures value { result ≡ command_of word }
         ensures exact { MatchOption result ((c : Command) → IsCommand c → word_of c ≢ word) (λ c. IsCommand c × (word_of c ≡ word)) }
     {
-        let [low, high, key, top] = word.to_le_bytes();
-        let (op, layer) = (top >> 4, top & 0x0F);
-        let code = u16::from_le_bytes([low, high]);
-        if unused_is_zero(op, layer, key, code) {
-            Command::read(op, layer, key, code).ok()
-        } else {
-            None
+        let layer = (word / 0x100_0000 % 16) as u8;
+        match word / 0x1000_0000 {
+            1 => {
+                let (key, code) = (word / 0x1_0000 % 256, word % 0x1_0000);
+                Command::read(1, layer, key as u8, code as u16).ok()
+            }
+            2 if word % 0x100_0000 == 0 => Command::read(2, layer, 0, 0).ok(),
+            3 if word % 0x1000_0000 == 0 => Some(Command::ResetAll),
+            _ => None,
         }
     }
 
@@ -108,13 +111,6 @@ fn code_of_format_1(code: u16) -> Option<u16>
         0x4010..=0x43FF => None,
         _ => Code::read(code).ok().map(|code| code.bits()),
     }
-}
-
-/// Whether what the operation does not use is 0.
-fn unused_is_zero(op: u8, layer: u8, key: u8, code: u16) -> bool
-    ensures { result ≡ unused_is_zero op layer key code }
-{
-    (op <= 2 || layer == 0) && (op <= 1 || (key == 0 && code == 0))
 }
 
 /// The word of these fields.

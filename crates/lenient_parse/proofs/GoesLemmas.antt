@@ -1,5 +1,5 @@
 -- The output so far, item by item.
-use Rattle.std.proofs.Common.{◌≡◌, ℕ, List, [], ◌∷◌, ◌++◌, length, refl, sym, ◌∙◌, ap}
+use Rattle.std.proofs.Common.{◌≡◌, ℕ, List, [], ◌∷◌, ◌++◌, length, sym, ◌∙◌, ap}
 use Rattle.std.proofs.lemmas.List.{append-nil, append_assoc}
 use Rattle.std.specs.Prelude.{replicate, None}
 use Rattle.descriptor_parse.specs.Items.{ItemValue}
@@ -12,19 +12,8 @@ use Rattle.lenient_parse.specs.Late.{has_id, late_after}
 use Rattle.lenient_parse.specs.Sets.{set_after}
 use Rattle.lenient_parse.specs.Padding.{padding}
 use Rattle.lenient_parse.specs.Lenient.{instead, passed, bytes_of, reported, text_from, origins_from, passed_from}
-use Rattle.lenient_parse.specs.representation.Relation.{Relation, AreShort}
+use Rattle.lenient_parse.specs.representation.Relation.{Relation}
 use Rattle.lenient_parse.specs.representation.Goes.{Goes}
-
-pub goes_first : (items : List ItemValue) (output : Output) (state : State) → Relation [] items state → state.late ≡ has_id items → state.set ≡ None
-    → output.text.items ≡ [] → output.origins.items ≡ [] → output.passed.items ≡ [] → AreShort items → Goes items items output state
-goes_first items output state s late set text origins passed short = record {
-  before = [];
-  refines = s;
-  short = short;
-  text = rw (late, set, text) refl;
-  origins = rw (late, set, origins) refl;
-  passed = rw (late, set, passed) refl;
-}
 
 -- what an item adds
 pub record Adds (item : ItemValue) (more : List ItemValue) (old new : Output) (state after : State) : Type 0 where

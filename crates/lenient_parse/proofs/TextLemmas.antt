@@ -1,12 +1,12 @@
 -- A whole text.
-use Rattle.std.proofs.Common.{◌≡◌, ◌≢◌, ℕ, zero, suc, ◌+◌, ◌-◌, ◌<◌, ◌≤◌, ◌%◌, List, [], ◌∷◌, ◌++◌, length, take, drop, refl, sym, ◌∙◌, ap, arith, false, inl, inr, length-drop}
+use Rattle.std.proofs.Common.{◌≡◌, ◌≢◌, ℕ, zero, suc, ◌+◌, ◌-◌, ◌<◌, ◌≤◌, ◌%◌, List, [], ◌∷◌, ◌++◌, length, take, drop, refl, ◌∙◌, ap, arith, false, inl, inr, length-drop}
 use Rattle.std.proofs.lemmas.Bool.{cases_Bool, cond_both, ne_eqb, lt-ltb, le-ltb, ltb-false}
 use Rattle.std.proofs.lemmas.List.{length-take}
 use Rattle.std.specs.Prelude.{◌==◌, nat_lt, min, replicate, None}
 use Rattle.descriptor_parse.specs.declared.fault.ParseError.{ParseError}
 use Rattle.descriptor_parse.specs.Items.{ItemValue, data_size, item_size, front_item, first_items, items_at}
 use Rattle.lenient_parse.specs.Late.{has_id}
-use Rattle.lenient_parse.specs.Lenient.{text_from, origins_from, passed_from, whole, end_of, items_of, passed_over, cut_off, rewritten, origins, LenientValue, lenient_of}
+use Rattle.lenient_parse.specs.Lenient.{text_from, origins_from, passed_from, whole, end_of, items_of, passed_over, rewritten, origins, lenient_of}
 use Rattle.lenient_parse.specs.representation.Relation.{AreShort}
 
 -- ---- the items of a text are short

@@ -1,6 +1,6 @@
 //! The text that is parsed in place of another one.
 
-ghost use Rattle.std.specs.Prelude.{◌≡◌, ◌≢◌, List, [], IfOk, OnOk, IfSome, IfNone, MatchBool, None, map, length, drop, slice_index_or};
+ghost use Rattle.std.specs.Prelude.{◌≡◌, ◌≢◌, ◌≤◌, List, [], IfOk, OnOk, OnErr, IfSome, IfNone, MatchBool, None, map, length, drop, slice_index_or};
 ghost use Rattle.descriptor_parse.specs.Items.{ItemValue};
 ghost use Rattle.descriptor_parse.specs.ItemViews.{item_view};
 ghost use Rattle.lenient_parse.specs.Late.{has_id};
@@ -81,6 +81,7 @@ pub fn rewritten(alloc: Global, text: &[u8]) -> Result<Option<Lenient>, AllocErr
     ensures some { IfOk result (λ r. IfSome r (λ l. l ≡ lenient_of text.now)) }
     ensures passes { IfOk result (λ r. IfSome r (λ l. passed_over text.now ≢ [])) }
     ensures none { IfOk result (λ r. IfNone r (passed_over text.now ≡ [])) }
+    ensures refused { OnErr result (length text.now ≤ 4096) }
 {
     if text.len() > MAX_LEN {
         return Ok(None);

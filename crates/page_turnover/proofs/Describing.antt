@@ -21,9 +21,6 @@ some_same x y e = cc
 pub same_page : (image : List ℕ) (p s q t : ℕ) → active image ≡ Some (p, s) → active image ≡ Some (q, t) → p ≡ q
 same_page image p s q t e f = ap (λ (a : ℕ × ℕ). a.0) (some_same (p, s) (q, t) (sym e ∙ f))
 
-pub same_seq : (image : List ℕ) (p s q t : ℕ) → active image ≡ Some (p, s) → active image ≡ Some (q, t) → s ≡ t
-same_seq image p s q t e f = ap (λ (a : ℕ × ℕ). a.1) (some_same (p, s) (q, t) (sym e ∙ f))
-
 pub le_of : (a b : ℕ) → nat_le a b ≡ true → a ≤ b
 le_of a b e = grind (arith, nat_tests)
 

@@ -57,16 +57,3 @@ one_bytes bytes at is slots free k l =
     let P : ℕ → Type 0 = λ n. get_or bytes n 0 ≡ 255 in
     let byte : get_or (slot_in bytes (k / 8)) (k % 8) 0 ≡ 255 = rw (is (k / 8) i) (all_eight (at (k / 8)) (slots (k / 8) i) (free (k / 8) i) (k % 8) j) in
     subst P e (sym (byte_in bytes (k / 8) (k % 8) j) ∙ byte)
-
--- a Free block before Free slots, and after them
-pub free_block_before : (image : List ℕ) (page block : ℕ) → FreeFrom image page (8 * (block + 1)) → ((i : ℕ) → i < 8 → slot_of (slot_at image page (8 * block + i)) ≡ Free) → FreeFrom image page (8 * block)
-free_block_before image page block rest here s a b = elim (cases_lt s (8 * (block + 1))) [
-  | inl l ↦ (let e : 8 * block + (s - 8 * block) ≡ s = omega arith in let P : ℕ → Type 0 = λ k. slot_of (slot_at image page k) ≡ Free in subst P e (here (s - 8 * block) (omega arith)))
-  | inr g ↦ rest s g b
-]
-
-pub free_block_after : (image : List ℕ) (page block : ℕ) → ((s : ℕ) → s < 8 * block → slot_of (slot_at image page s) ≡ Free) → ((i : ℕ) → i < 8 → slot_of (slot_at image page (8 * block + i)) ≡ Free) → (s : ℕ) → s < 8 * (block + 1) → slot_of (slot_at image page s) ≡ Free
-free_block_after image page block before here s l = elim (cases_lt s (8 * block)) [
-  | inl a ↦ before s a
-  | inr g ↦ (let e : 8 * block + (s - 8 * block) ≡ s = omega arith in let P : ℕ → Type 0 = λ k. slot_of (slot_at image page k) ≡ Free in subst P e (here (s - 8 * block) (omega arith)))
-]

@@ -12,11 +12,6 @@ use Rattle.page_turnover.specs.Words.{word_of}
 use Rattle.page_turnover.specs.representation.Turn.{IsGood}
 use Rattle.page_turnover.specs.representation.Blocks.{AreGoodFrom, AreGoodWithin}
 
-good_one : (s : Slot) → ◌≡◌ {A = ℕ} (if is_good s then 1 else 0) 1 → IsGood s
-good_one Free e = absurd (omega arith)
-good_one (Good word) e = tt
-good_one Spoiled e = absurd (omega arith)
-
 good_zero : (s : Slot) → ◌≡◌ {A = ℕ} (if is_good s then 1 else 0) 0 → word_of s ≡ []
 good_zero Free e = refl
 good_zero (Good word) e = absurd (omega arith)
@@ -28,9 +23,6 @@ lowest image page slot good h =
     let e : slot + 0 ≡ slot = omega arith in
     let P : ℕ → Type 0 = λ s. bit_at good 0 ≡ (if is_good (slot_of (slot_at image page s)) then 1 else 0) in
     sym (bit_at_lowest good) ∙ subst P e (h 0 (omega arith))
-
-pub good_now : (image : List ℕ) (page slot good : ℕ) → AreGoodFrom image page slot good → good % 2 ≡ 1 → IsGood (slot_of (slot_at image page slot))
-good_now image page slot good h e = good_one (slot_of (slot_at image page slot)) (sym (lowest image page slot good h) ∙ e)
 
 pub no_word : (image : List ℕ) (page slot good : ℕ) → AreGoodFrom image page slot good → (good % 2 ≡ 1 → ⊥) → word_of (slot_of (slot_at image page slot)) ≡ []
 no_word image page slot good h n = good_zero (slot_of (slot_at image page slot)) (sym (lowest image page slot good h) ∙ let z : good % 2 ≡ 0 = omega (arith, n) in z)

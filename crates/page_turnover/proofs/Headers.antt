@@ -1,4 +1,5 @@
 use Rattle.std.proofs.Common.{◌≡◌, ◌∙◌, ℕ, ◌+◌, ◌*◌, ◌/◌, ◌%◌, ◌^◌, ◌≤◌, ◌<◌, ◌⊎◌, suc, zero, Bool, true, false, ◌==◌, ◌||◌, if◌then◌else◌, List, Option, Some, None, refl, arith, sym, ap, subst, inl, inr, MatchOption, nat_lt}
+use Rattle.std.specs.Prelude.{⊤}
 use Rattle.std.proofs.lemmas.Bool.{cases_lt}
 use Rattle.std.proofs.lemmas.Bool.Decides.{nat_tests}
 use Rattle.records.specs.declared.Slot.{Slot}
@@ -220,3 +221,11 @@ format_by old new (Some place) e f h = format-some new place.0 place.1 f ∙ rw 
 -- the same active page, with the same slot 0
 pub format-same : (old new : List ℕ) → active new ≡ active old → ((p s : ℕ) → active old ≡ Some (p, s) → slot_at new p 0 ≡ slot_at old p 0) → format new ≡ format old
 format-same old new e h = format_by old new (active old) refl e h
+
+-- the word that is kept of a page is that of its slot 0
+pub still_words : (image : List ℕ) (page : ℕ) (slot : Slot) (best next : Option (ℕ × ℕ)) → slot ≡ slot_of (slot_at image page 0) → MatchOption best ⊤ (λ r. slot_of (slot_at image r.0 0) ≡ Good r.1) → MatchOption next ⊤ (λ r. (best ≡ Some r) ⊎ ((r.0 ≡ page) × (slot ≡ Good r.1))) → MatchOption next ⊤ (λ r. slot_of (slot_at image r.0 0) ≡ Good r.1)
+still_words image page slot best None e h n = tt
+still_words image page slot best (Some r) e h n = elim n [
+  | inl s ↦ rw s at h
+  | inr p ↦ rw p.0 (sym e ∙ p.1)
+]

@@ -149,9 +149,6 @@ fills_for old log (Erase page) new d n one = record { slot = 0; others = λ p se
 pub fills : (old : List ℕ) (log : LogValue) (operation : Operation) (new : List ℕ) → Describes old log → next_operation old log ≡ Some operation → Frame old operation new → FillsAtMostOne old new
 fills old log operation new d e f = fills_for old log operation new d (next_is old log operation e) f
 
-pub fills_none : (old : List ℕ) → FillsAtMostOne old old
-fills_none old = record { slot = 0; others = λ p seq s e l m. refl }
-
 -- a torn operation that reads as intended is the whole one
 whole_for : (old : List ℕ) (operation : Operation) (new : List ℕ) → IsImage old → IsImage new → CanMake old operation → MayMake old operation new → ReadsBack operation new → Makes old operation new
 whole_for old (Program page slot word) new i j c g r = program_whole old new page slot word i j c.0 c.1 c.3 g r

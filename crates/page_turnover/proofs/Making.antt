@@ -5,30 +5,25 @@ use Rattle.records.specs.Slots.{slot_of, encoded}
 use Rattle.flash_model.specs.Image.{slot_at, IsImage}
 use Rattle.records.proofs.ReadBack.{is_slot}
 use Rattle.records.proofs.SlotLemmas.{encoded_slot, first_is, first_half-encoded, free_is_blank, good_pairs, slot_of-encoded}
-use Rattle.flash_model.specs.Assured.{IsAssured, IsShortWord}
-use Rattle.flash_model.specs.Operations.{Programs, MayProgram, Erases, MayErase}
-use Rattle.page_turnover.specs.declared.operation.Operation.{Operation}
+use Rattle.flash_model.specs.Assured.{IsAssured}
+use Rattle.flash_model.specs.Operations.{Programs, MayProgram, MayErase}
 use Rattle.page_turnover.specs.declared.operation.Operation.TheVariants.{Program, Erase}
 use Rattle.page_turnover.specs.Words.{IsBlank}
-use Rattle.page_turnover.specs.Next.{Makes, ProgramsShort, ReadsBack}
 use Rattle.page_turnover.specs.representation.Made.{CanMake, IsMade}
 use Rattle.page_turnover.proofs.Operating.{programmed_good}
 use Rattle.page_turnover.proofs.Torn.{program_whole, erase_whole}
-use Rattle.page_turnover.proofs.Kept.{erased_free}
 
-program_read : (old new : List ℕ) (page slot word : ℕ) (held : Bool) → ((held ≡ true) ↔ (slot_of (slot_at new page slot) ≡ Good word)) → IsImage old → IsImage new → CanMake old (Program page slot word) → MayProgram old page slot (encoded word) new → IsMade old (Program page slot word) held new
-program_read old new page slot word true h i j c g = (program_whole old new page slot word i j c.0 c.1 c.3 g (h.0 refl), h.0 refl)
-program_read old new page slot word false h i j c g = (g, λ r. let f = h.1 r in cc)
+pub program_checked : (old new : List ℕ) (page slot word : ℕ) (held : Bool) → ((held ≡ true) ↔ (slot_of (slot_at new page slot) ≡ Good word)) → IsImage old → IsImage new → CanMake old (Program page slot word) → MayProgram old page slot (encoded word) new → IsMade old (Program page slot word) held new
+program_checked old new page slot word true h i j c g = (program_whole old new page slot word i j c.0 c.1 c.3 g (h.0 refl), h.0 refl)
+program_checked old new page slot word false h i j c g = (g, λ r. let f = h.1 r in cc)
 
-erase_read : (old new : List ℕ) (page : ℕ) (blank : Bool) → ((blank ≡ true) ↔ IsBlank new page) → IsImage new → CanMake old (Erase page) → MayErase old page new → IsMade old (Erase page) blank new
+pub erase_read : (old new : List ℕ) (page : ℕ) (blank : Bool) → ((blank ≡ true) ↔ IsBlank new page) → IsImage new → CanMake old (Erase page) → MayErase old page new → IsMade old (Erase page) blank new
 erase_read old new page true h j c g = (erase_whole old new page j c g (h.0 refl), h.0 refl)
 erase_read old new page false h j c g = (g, λ r. let f = h.1 r in cc)
 
 -- a healthy flash is sure to make the program of a short word
-pub assured : (old : List ℕ) (operation : Operation) (page slot word : ℕ) → operation ≡ Program page slot word → IsImage old → CanMake old operation → ProgramsShort operation → IsAssured old page slot (encoded word)
-assured old operation page slot word e i c s =
-    let k : CanMake old (Program page slot word) = rw e at c in
-    let short : word < 2 ^ 31 = rw e at s in
+pub assured : (old : List ℕ) (page slot word : ℕ) → IsImage old → CanMake old (Program page slot word) → word < 2 ^ 31 → IsAssured old page slot (encoded word)
+assured old page slot word i k short =
     let e_first = first_is (encoded word) in
     let e_word = first_half-encoded word k.2 in
     record {
@@ -40,16 +35,5 @@ assured old operation page slot word e i c s =
       };
     }
 
-pub programmed : (old new : List ℕ) (operation : Operation) (page slot word : ℕ) → operation ≡ Program page slot word → IsImage old → IsImage new → CanMake old operation → Programs old page slot (encoded word) new → Makes old operation new × ReadsBack operation new
-programmed old new operation page slot word e i j c g =
-    let k : CanMake old (Program page slot word) = rw e at c in
-    rw e (g, programmed_good old new page slot word k.2 i j k.0 k.1 k.3 g)
-
-pub program_checked : (old new : List ℕ) (operation : Operation) (page slot word : ℕ) (held : Bool) → operation ≡ Program page slot word → ((held ≡ true) ↔ (slot_of (slot_at new page slot) ≡ Good word)) → IsImage old → IsImage new → CanMake old operation → MayProgram old page slot (encoded word) new → IsMade old operation held new
-program_checked old new operation page slot word held e h i j c g = rw e (program_read old new page slot word held h i j (rw e at c) g)
-
-pub erased : (old new : List ℕ) (operation : Operation) (page : ℕ) → operation ≡ Erase page → Erases old page new → Makes old operation new × ReadsBack operation new
-erased old new operation page e g = rw e (g, λ s a l. erased_free old page new s l g)
-
-pub erase_checked : (old new : List ℕ) (operation : Operation) (page : ℕ) (blank : Bool) → operation ≡ Erase page → ((blank ≡ true) ↔ IsBlank new page) → IsImage new → CanMake old operation → MayErase old page new → IsMade old operation blank new
-erase_checked old new operation page blank e h j c g = rw e (erase_read old new page blank h j (rw e at c) g)
+pub programmed : (old new : List ℕ) (page slot word : ℕ) → IsImage old → IsImage new → CanMake old (Program page slot word) → Programs old page slot (encoded word) new → IsMade old (Program page slot word) true new
+programmed old new page slot word i j k g = (g, programmed_good old new page slot word k.2 i j k.0 k.1 k.3 g)

@@ -1,4 +1,4 @@
-use Rattle.std.proofs.Common.{◌≡◌, ℕ, ◌+◌, ◌-◌, ◌≤◌, ◌<◌, suc, zero, List, [], ◌++◌, refl, arith, ◌∙◌}
+use Rattle.std.proofs.Common.{◌≡◌, ℕ, ◌+◌, ◌-◌, ◌≤◌, ◌<◌, suc, zero, List, [], ◌++◌, refl, arith, ◌∙◌, subst}
 use Rattle.std.proofs.Common.{inl, inr}
 use Rattle.std.proofs.lemmas.Bool.{cases_lt}
 use Rattle.std.proofs.lemmas.List.{append-nil}
@@ -18,16 +18,16 @@ up_to_more image page zero l = absurd (omega arith)
 up_to_more image page (suc n) l = let e : suc n - 1 ≡ n = omega arith in rw e refl
 
 -- one slot less to come
-pub words_after_less : (image : List ℕ) (page slot : ℕ) → slot < 512 → words_after image page slot (512 - slot) ≡ word_of (slot_of (slot_at image page slot)) ++ words_after image page (slot + 1) (512 - (slot + 1))
+pub words_after_less : (image : List ℕ) (page slot end : ℕ) → slot < end → words_after image page slot (end - slot) ≡ word_of (slot_of (slot_at image page slot)) ++ words_after image page (slot + 1) (end - (slot + 1))
 unfolding words_after
-words_after_less image page slot l =
-    let e : 512 - slot ≡ suc (512 - (slot + 1)) = omega arith in
+words_after_less image page slot end l =
+    let e : end - slot ≡ suc (end - (slot + 1)) = omega arith in
     let f : slot + 1 ≡ suc slot = omega arith in
     rw (e, f) refl
 
-pub words_after_end : (image : List ℕ) (page slot : ℕ) → 512 ≤ slot → words_after image page slot (512 - slot) ≡ []
+pub words_after_end : (image : List ℕ) (page slot end : ℕ) → end ≤ slot → words_after image page slot (end - slot) ≡ []
 unfolding words_after
-words_after_end image page slot l = let e : 512 - slot ≡ 0 = omega arith in rw e refl
+words_after_end image page slot end l = let e : end - slot ≡ 0 = omega arith in rw e refl
 
 -- what is not Good has no word
 pub word_of_none : (s : Slot) → ((w : ℕ) → s ≡ Good w → ⊥) → word_of s ≡ []
@@ -79,5 +79,8 @@ words_up_to_after image page n (suc m) =
     let r = words_up_to_after image page (n + 1) m in
     rw (e) (rw (← append_assoc, ← h, ← f) r)
 
-pub words_from_first : (image : List ℕ) (page : ℕ) → words_after image page 1 511 ≡ words_up_to image page 511
-words_from_first image page = rw (words_none image page) at (words_up_to_after image page 0 511)
+pub words_from_first : (image : List ℕ) (page n : ℕ) → words_after image page 1 n ≡ words_up_to image page n
+words_from_first image page n =
+    let e : 0 + n ≡ n = omega arith in
+    let P : ℕ → Type 0 = λ k. words_after image page 1 n ≡ words_up_to image page k in
+    subst P e (rw (words_none image page) at (words_up_to_after image page 0 n))

@@ -1,6 +1,5 @@
 -- Trusted: whether a log has room for a record.
 use Rattle.std.specs.Prelude.{◌≡◌, IsSomeAnd, ◌≤◌}
-use Rattle.page_turnover.specs.Active.{active, format}
 use Rattle.page_turnover.specs.Value.{LogValue}
 
 -- the active page that a log holds is of format 2, and its tail is a slot

@@ -12,7 +12,7 @@ use Rattle.page_turnover.specs.declared.operation.Operation.TheVariants.{Program
 use Rattle.page_turnover.specs.Header.{header_word}
 use Rattle.page_turnover.specs.Words.{IsBlank}
 use Rattle.page_turnover.specs.Blank.{is_blank}
-use Rattle.page_turnover.specs.Value.{LogValue, Target, Unread, Holds, Task, Rest, Append, Wait, Copy, Seal}
+use Rattle.page_turnover.specs.Value.{LogValue, Target, Unread, Holds, Task, Append, Copy, Seal}
 use Rattle.page_turnover.specs.Turn.{target_page, next_seq, copied}
 
 -- whether a target holds its copies, or is blank before the first: else it has to be erased

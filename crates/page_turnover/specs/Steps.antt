@@ -13,7 +13,9 @@ use Rattle.page_turnover.specs.Words.{words, FreeFrom, IsBlank}
 use Rattle.page_turnover.specs.Value.{LogValue, Target, Unread, Holds, Task, Rest, Append, Wait, Copy, Seal}
 use Rattle.page_turnover.specs.representation.Log.{Describes}
 use Rattle.page_turnover.specs.Turn.{target_page, next_seq, copied, copies, offered, IsPending}
-use Rattle.page_turnover.specs.Next.{Makes, MayMake, ReadsBack}
+use Rattle.page_turnover.specs.Next.{Makes, MayMake, ReadsBack, next_operation}
+use Rattle.page_turnover.specs.Operates.{Operates, MayOperate, FillsAtMostOne}
+use Rattle.page_turnover.specs.Usable.{IsUsable}
 
 -- nothing is pending, and nothing changes
 pub record Idles (old : Bytes) (before : LogValue) (step : Step) (new : Bytes) (after : LogValue) : Type 0 where
@@ -125,3 +127,16 @@ pub record CountsAs (idle failed : Type 0) (operations operations_after faults f
   pub fault : failed → faults_after ≡ (faults + 1) % 2 ^ 64
   pub no_fault : idle → faults_after ≡ faults
   pub read_back : (failed → ⊥) → (faults_after ≡ faults) ⊎ (faults_after ≡ (faults + 1) % 2 ^ 64)
+
+-- all that a step owes where something is pending: how it ends, the operation that it makes, and what its answer means
+pub record IsStep (old : Bytes) (before : LogValue) (step : Step) (new : Bytes) (after : LogValue) : Type 0 where
+  pub not_idle : step ≢ Idle
+  pub ends : EndsAs old before step new after
+  pub attempts : AttemptsNext (next_operation old before) old (step ≡ Idle) (step ≡ Failed) new
+  pub moved : step ≡ Moved → Moves old before.task new after.task
+  pub committed : step ≡ Committed → Commits old before.task new
+  pub was_usable : IsUsable old
+  pub usable : IsUsable new
+  pub operates : step ≢ Failed → Operates old new
+  pub torn : step ≡ Failed → MayOperate old new
+  pub fills : FillsAtMostOne old new

@@ -53,6 +53,17 @@ HasShortWord (Append word) = word < 2 ^ 31
 HasShortWord (Copy target word) = word < 2 ^ 31
 HasShortWord _ = Unit {0}
 
+-- a word is to be appended
+abbrev pub IsAppend : Task → Type 0
+IsAppend (Append word) = Unit {0}
+IsAppend _ = ⊥
+
+-- a compaction was offered a copy or its commit header
+abbrev pub HasOffer : Task → Type 0
+HasOffer (Copy target word) = Unit {0}
+HasOffer (Seal target) = Unit {0}
+HasOffer _ = ⊥
+
 -- a compaction waits for a copy or its commit header
 abbrev pub IsWaiting : Task → Type 0
 IsWaiting (Wait target) = Unit {0}

@@ -17,7 +17,7 @@ pub const BLOCK_SLOTS: u32 = 8;
 pub const PAGE_BLOCKS: u32 = PAGE_SLOTS as u32 / BLOCK_SLOTS;
 
 /// Whether each slot of a block is Free.
-#[inline]
+#[inline(never)]
 pub fn is_free_block<F: NorFlash>(flash: &F, page: usize, block: u32) -> bool
     requires in_pages { page < page_count (F.image flash.now) }
     requires in_page { block < 64 }
@@ -29,7 +29,7 @@ pub fn is_free_block<F: NorFlash>(flash: &F, page: usize, block: u32) -> bool
 }
 
 /// Which slots of a block are Good: bit `i` is that of slot `i` of the block.
-#[inline]
+#[inline(never)]
 pub fn good_in_block<F: NorFlash>(flash: &F, page: usize, block: u32) -> u8
     requires in_pages { page < page_count (F.image flash.now) }
     requires in_page { block < 64 }

@@ -1,9 +1,8 @@
 //! The header of a page.
 
-ghost use Rattle.std.specs.Prelude.{◌≡◌, ◌<◌, ◌^◌};
+ghost use Rattle.std.specs.Prelude.{◌≡◌, ◌%◌, ◌<◌, ◌^◌, Some, None, MatchBool};
+ghost use Rattle.records.specs.declared.Slot.{Slot};
 ghost use Rattle.page_turnover.specs.Header.{header_of, header_word, format_of};
-
-use records::Slot;
 
 /// The header word of sequence number 0 in format 1, and what a format more adds to it.
 const FIRST_HEADER: u32 = 1 << 28;
@@ -14,28 +13,27 @@ pub const FORMAT: u8 = 2;
 /// The greatest sequence number, of 28 bits.
 pub const LAST_SEQ: u32 = (1 << 28) - 1;
 
-/// The sequence number that a slot has as a header of either format, if it is one.
+/// Whether a word is a header of either format.
 #[tactic(auto, unfolding(crate::specs::Header::header_of))]
-pub fn header_seq(slot: Slot) -> Option<u32>
-    ensures { result ≡ header_of slot }
+pub fn is_header(word: u32) -> bool
+    ensures { MatchBool result (header_of (Slot.Good word) ≡ Some (word % 2 ^ 28)) (header_of (Slot.Good word) ≡ None) }
 {
-    match slot {
-        Slot::Good(word) if word / FIRST_HEADER == 1 || word / FIRST_HEADER == 2 => {
-            Some(word % FIRST_HEADER)
-        }
-        Slot::Good(_) | Slot::Free | Slot::Spoiled => None,
-    }
+    word / FIRST_HEADER == 1 || word / FIRST_HEADER == 2
 }
 
-/// The format that a slot has as a header: 1 or 2 where it is one.
-#[tactic(auto, unfolding(crate::specs::Header::format_of))]
-pub fn header_format(slot: Slot) -> u8
-    ensures { result ≡ format_of slot }
+/// The sequence number of a header word.
+pub fn seq_of(word: u32) -> u32
+    ensures { result ≡ word % 2 ^ 28 }
 {
-    match slot {
-        Slot::Good(word) => (word / FIRST_HEADER) as u8,
-        Slot::Free | Slot::Spoiled => 0,
-    }
+    word % FIRST_HEADER
+}
+
+/// The format of a header word.
+#[tactic(auto, unfolding(crate::specs::Header::format_of))]
+pub fn word_format(word: u32) -> u8
+    ensures { result ≡ format_of (Slot.Good word) }
+{
+    (word / FIRST_HEADER) as u8
 }
 
 /// The header word of a sequence number, of format 2.

@@ -15,6 +15,7 @@
 //! whoever keeps settings in NOR flash can.
 #![tactic(auto)]
 
+mod attempt;
 mod block;
 mod header;
 mod log;

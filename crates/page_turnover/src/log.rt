@@ -1,7 +1,9 @@
 //! A log over the pages of a flash.
 
-ghost use Rattle.std.specs.Prelude.{◌≡◌, ◌≤◌, ◌↔◌, ℕ, List, Option, Some, None, IsTrue, MatchResult, MatchOption, IsSomeAnd, IsOk, false};
-ghost use Rattle.flash_model.specs.Image.{IsImage};
+ghost use Rattle.std.specs.Prelude.{◌≡◌, ◌%◌, ◌^◌, ◌≤◌, ◌↔◌, ℕ, List, Option, Some, None, IsTrue, MatchResult, MatchOption, IsSomeAnd, IsOk, false};
+ghost use Rattle.flash_model.specs.Image.{IsImage, slot_at};
+ghost use Rattle.records.specs.declared.Slot.{Slot};
+ghost use Rattle.records.specs.Slots.{slot_of};
 ghost use Rattle.page_turnover.specs.Active.{active, format};
 ghost use Rattle.page_turnover.specs.Words.{words, HasRoom, IsTail};
 ghost use Rattle.page_turnover.specs.Usable.{IsUsable, IsFirstUnsound};
@@ -11,11 +13,10 @@ ghost use Rattle.page_turnover.specs.representation.Log.{IsHeld};
 mod stepping;
 mod turning;
 
-use crate::header::{FORMAT, header_format};
+use crate::header::{FORMAT, seq_of, word_format};
 use crate::reading::{read_headers, tail};
 use crate::words::Words;
 use flash_model::{NorFlash, PAGE_SLOTS};
-use records::classify;
 use std::marker::Model;
 pub use stepping::Step;
 pub use turning::TurnRefusal;
@@ -113,7 +114,7 @@ impl Log {
         let _pages = flash.pages();
         let headers = read_headers(flash);
         let active = match headers.active {
-            Some((page, seq)) => Some(active_page(flash, page, seq)),
+            Some((page, word)) => Some(active_page(flash, page, word)),
             None => None,
         };
         Log {
@@ -197,7 +198,7 @@ impl Log {
         ensures { result ≡ words (F.image flash.now) }
     {
         match self.active {
-            Some(active) => Words::of_page(flash, active.page as usize),
+            Some(active) => Words::of_page(flash, active.page as usize, active.tail),
             None => Words::none(flash),
         }
     }
@@ -210,16 +211,17 @@ fn has_room(active: ActivePage) -> bool
     active.format == FORMAT && active.tail < PAGE_SLOTS as u16
 }
 
-/// What a log holds of the active page.
-fn active_page<F: NorFlash>(flash: &F, page: usize, seq: u32) -> ActivePage
+/// What a log holds of the active page, which has this header.
+fn active_page<F: NorFlash>(flash: &F, page: usize, word: u32) -> ActivePage
     requires whole { IsImage (F.image flash.now) }
-    requires is_active { active (F.image flash.now) ≡ Some (page, seq) }
+    requires is_active { active (F.image flash.now) ≡ Some (page, word % 2 ^ 28) }
+    requires good { slot_of (slot_at (F.image flash.now) page 0) ≡ Slot.Good word }
     ensures { IsHeld (F.image flash.now) result }
 {
     ActivePage {
         page: page as u8,
-        seq,
-        format: header_format(classify(flash.read_slot(page, 0))),
+        seq: seq_of(word),
+        format: word_format(word),
         tail: tail(flash, page),
     }
 }

@@ -2,6 +2,7 @@
 
 ghost use Rattle.std.specs.Prelude.{◌≡◌, ◌-◌, ◌<◌, ◌≤◌, []};
 ghost use Rattle.std.specs.Iterator.{YieldsFirst, at_most, item_count};
+ghost use Rattle.flash_model.specs.declared.TheConstants.{PAGE_SLOTS};
 ghost use Rattle.flash_model.specs.Image.{page_count, slot_at};
 ghost use Rattle.records.specs.Slots.{slot_of};
 ghost use Rattle.page_turnover.specs.representation.Words.{words_after};
@@ -9,7 +10,7 @@ ghost use Rattle.page_turnover.specs.representation.Blocks.{AreGoodFrom, AreGood
 ghost use Rattle.page_turnover.specs.representation.Turn.{IsGood};
 
 use crate::block::{BLOCK_SLOTS, good_in_block};
-use flash_model::{NorFlash, PAGE_SLOTS};
+use flash_model::NorFlash;
 use records::Slot;
 use std::marker::Model;
 
@@ -18,15 +19,17 @@ use std::marker::Model;
 pub struct Words<'a, F: NorFlash> {
     flash: &'a F,
     page: usize,
-    /// The next slot, 512 at the end.
+    /// The next slot.
     next: u32,
+    /// The slot behind the last one, at most 512.
+    end: u32,
     /// Which slots of the next one's block are Good, from it on; at a block's first slot still to be
     /// read.
     good: u8,
 }
 
 impl<'a, F: NorFlash> Model for Words<'a, F> {
-    ghost use Rattle.std.specs.Prelude.{ℕ, List, ◌-◌, ◌<◌};
+    ghost use Rattle.std.specs.Prelude.{ℕ, List, ◌-◌, ◌<◌, ◌≤◌};
     ghost use Rattle.flash_model.specs.declared.TheConstants.{PAGE_SLOTS};
     ghost use Rattle.flash_model.specs.Image.{page_count};
     ghost use Rattle.page_turnover.specs.representation.Words.{words_after};
@@ -34,22 +37,24 @@ impl<'a, F: NorFlash> Model for Words<'a, F> {
 
     ghost Value = { List ℕ };
 
-    ghost view = { λ s. words_after (F.image s.flash.now) s.page s.next (PAGE_SLOTS - s.next) };
+    ghost view = { λ s. words_after (F.image s.flash.now) s.page s.next (s.end - s.next) };
 
-    ghost invariant = { λ s. (s.page < page_count (F.image s.flash.now)) × AreGoodWithin (F.image s.flash.now) s.page s.next s.good };
+    ghost invariant = { λ s. (s.page < page_count (F.image s.flash.now)) × (s.end ≤ PAGE_SLOTS) × AreGoodWithin (F.image s.flash.now) s.page s.next s.good };
 }
 
 impl<'a, F: NorFlash> Words<'a, F> {
-    /// The words of slots 1 to 511 of a page.
-    pub(crate) fn of_page(flash: &'a F, page: usize) -> Words<'a, F>
-        requires { page < page_count (F.image flash.now) }
-        ensures { result ≡ words_after (F.image flash.now) page 1 511 }
+    /// The words of the slots from 1 up to this one of a page.
+    pub(crate) fn of_page(flash: &'a F, page: usize, end: u16) -> Words<'a, F>
+        requires in_pages { page < page_count (F.image flash.now) }
+        requires in_page { end ≤ PAGE_SLOTS }
+        ensures { result ≡ words_after (F.image flash.now) page 1 (end - 1) }
     {
         let good = good_in_block(flash, page, 0) / 2;
         Words {
             flash,
             page,
             next: 1,
+            end: end as u32,
             good,
         }
     }
@@ -62,7 +67,8 @@ impl<'a, F: NorFlash> Words<'a, F> {
         Words {
             flash,
             page: 0,
-            next: PAGE_SLOTS as u32,
+            next: 0,
+            end: 0,
             good: 0,
         }
     }
@@ -78,7 +84,8 @@ impl<'a, F: NorFlash> Iterator for Words<'a, F> {
     #[inline(always)]
     #[tactic(auto, using(crate::proofs::WordLists::words_after_less, crate::proofs::WordLists::words_after_end, crate::proofs::WordLists::word_of_none))]
     fn next(&mut self) -> Option<u32> {
-        for slot in self.next..PAGE_SLOTS as u32 {
+        let end = self.end;
+        for slot in self.next..end {
             let good = good_from(self.flash, self.page, slot, self.good);
             self.next = slot + 1;
             self.good = good / 2;

@@ -32,9 +32,6 @@ unfolding values_of_lanes
 nothing_left d bytes [] place p e = rw p refl
 nothing_left d bytes (lane ∷ lanes) place p e = absurd (omega arith)
 
-pub is_place : (lanes : List Lane) (place : ℕ) (lane : Lane) (more : List Lane) → lanes ≡ lane ∷ more → IsPlace place lanes → place < lane.kept.field.count
-is_place lanes place lane more e p = rw e at p
-
 pub first_value : (d : DescriptorValue) (bytes : List ℕ) (lane : Lane) (lanes : List Lane) (place : ℕ) → place < lane.kept.field.count
     → drop place (values_of_lanes d bytes (lane ∷ lanes)) ≡ value_of d bytes lane.kept place ∷ drop (place + 1) (values_of_lanes d bytes (lane ∷ lanes))
 unfolding values_of_lanes

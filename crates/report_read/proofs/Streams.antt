@@ -2,21 +2,18 @@
 use Rattle.std.proofs.Common.{◌≡◌, ℕ, ◌+◌, ◌-◌, ◌*◌, ◌/◌, ◌%◌, ◌^◌, ◌<◌, ◌≤◌, List, [], ◌∷◌, ◌++◌, length, get_or, min, arith, refl, sym, ◌∙◌, ap, inl, inr, length-append}
 use Rattle.std.specs.Int.{bit_at}
 use Rattle.std.proofs.lemmas.Bool.{cases_lt, lt-ltb, le-ltb}
-use Rattle.std.proofs.lemmas.List.{get_or_past, get_or_append_left, get_or_push}
+use Rattle.std.proofs.lemmas.List.{get_or_append_left, get_or_push}
 use Rattle.std.proofs.Math.Pow.{pow_mono}
 use Rattle.std.proofs.lemmas.Nat.Bits.{bit_at-zero, bit_at_cat_high}
 use Rattle.descriptor_parse.specs.declared.field.Field.{Field}
 use Rattle.host_extract.specs.Numbers.{report_bit, number_at}
 use Rattle.host_extract.proofs.NumberLemmas.{number-lt, number-bit}
-use Rattle.report_read.specs.Buffered.{field_bit, AreBytesOf}
+use Rattle.report_read.specs.Buffered.{field_bit}
 
 -- the first bytes of a field
 pub record AreFirst (field : Field) (report : List ℕ) (k : ℕ) (bytes : List ℕ) : Type 0 where
   pub long : length bytes ≡ k
   pub bits : (n : ℕ) → n < 8 * k → report_bit bytes n ≡ field_bit field report n
-
-pub none_first : (field : Field) (report : List ℕ) → AreFirst field report 0 []
-none_first field report = record { long = refl; bits = λ n l. absurd (omega arith) }
 
 bit_past : (x n i : ℕ) → x < 2 ^ n → n ≤ i → bit_at x i ≡ 0
 bit_past x n i l o =
@@ -55,16 +52,6 @@ next_byte field report bytes items k byte before e b =
             rw (last, b) (byte_bits field report (8 * k) (n % 8) (omega arith) ∙ ap (field_bit field report) sum))
       ];
     })
-
-pub all_bytes : (field : Field) (report bytes : List ℕ) (k : ℕ) → k ≡ (field.size * field.count + 7) / 8 → AreFirst field report k bytes → AreBytesOf field report bytes
-all_bytes field report bytes k e all = record {
-  enough = all.long ∙ e;
-  bits = λ n. elim (cases_lt n (8 * k)) [
-    | inl low ↦ all.bits n low
-    | inr high ↦ (let past : get_or bytes (n / 8) 0 ≡ 0 = get_or_past bytes (n / 8) 0 (omega (arith, all.long)) in
-        rw past (bit_at-zero (n % 8) ∙ outside field report n (omega (arith, e))))
-  ];
-}
 
 pub eight_bits : (bytes : List ℕ) (bit size number : ℕ) → size ≤ 8 → number ≡ number_at bytes bit size → number < 2 ^ 8
 eight_bits bytes bit size number few e = omega (arith, number-lt bytes size bit, pow_mono few, e)

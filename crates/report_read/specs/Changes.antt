@@ -1,6 +1,6 @@
 -- Trusted: the usages that are on in a report, and those in which two reports differ.
 use Rattle.shapes.specs.Shapes.{Bytes, UsageList}
-use Rattle.std.specs.Prelude.{◌≡◌, ℕ, ◌%◌, ◌^◌, ◌==◌, ◌&&◌, ◌||◌, ◌↔◌, not, if◌then◌else◌, Bool, true, false, List, [], ◌∷◌, flat_map, slice_get, Contains, pos, Option, Some, None, unwrap_or}
+use Rattle.std.specs.Prelude.{ℕ, ◌%◌, ◌^◌, ◌==◌, ◌&&◌, ◌||◌, ◌↔◌, not, if◌then◌else◌, Bool, true, false, List, [], ◌∷◌, flat_map, slice_get, Contains, pos, Option, Some, None, unwrap_or}
 use Rattle.std.specs.Option.{option_map, option_or}
 use Rattle.std.specs.Ordering.{int_eq}
 use Rattle.std.specs.List.Sorted.{IsStrictlyIncreasing}

@@ -1,6 +1,6 @@
 //! The usages that are on in a report, and those in which two reports differ.
 
-ghost use Rattle.std.specs.Prelude.{◌≡◌, ◌≢◌, ℕ, ◌↔◌, Contains, IfOk, IfErr, None, Some, false, not, filter};
+ghost use Rattle.std.specs.Prelude.{◌≡◌, ◌≢◌, ℕ, ◌++◌, ◌↔◌, [], Contains, IfOk, IfErr, OnErr, None, Some, false, not, filter};
 ghost use Rattle.std.specs.List.Sorted.{IsStrictlyIncreasing};
 ghost use Rattle.report_read.specs.declared.error.ReadingError.{ReadingError};
 ghost use Rattle.report_read.specs.Refusals.{refusal};
@@ -31,7 +31,7 @@ pub struct Changed {
 /// 07:01 to 07:03 of a keyboard (ErrorRollOver, POSTFail, ErrorUndefined) are reported as any usage. They are no keys: a report
 /// with one of them does not tell which keys are down.
 ///
-/// The errors are those of [`ReportReader::read`], and then `Memory`.
+/// The errors are those of [`ReportReader::read`], and then `Memory`, where a usage is on.
 pub fn pressed(
     alloc: Global,
     reader: &ReportReader,
@@ -41,6 +41,8 @@ pub fn pressed(
     ensures pressed { IfOk result (λ v. AreRising (on_in reader.now kind report.now) v.items) }
     ensures taken { IfOk result (λ _. refusal reader.now.descriptor kind report.now ≡ None) }
     ensures refused { IfErr result (λ e. e ≢ ReadingError.Memory → refusal reader.now.descriptor kind report.now ≡ Some e) }
+    ensures memory { IfErr result (λ e. e ≡ ReadingError.Memory → refusal reader.now.descriptor kind report.now ≡ None) }
+    ensures wanted { IfErr result (λ e. e ≡ ReadingError.Memory → on_in reader.now kind report.now ≢ []) }
 {
     let reading = reader.read(kind, report)?;
     let mut usages = gather(alloc, reader.descriptor(), reading)?;
@@ -51,7 +53,7 @@ pub fn pressed(
 /// The usages in which two reports of a kind and ID differ.
 ///
 /// The errors are those of [`ReportReader::read`] for the earlier report, and for the later one; then `OtherId` where they have
-/// different IDs, and `Memory`.
+/// different IDs, and `Memory`, where a usage is on in one of them.
 pub fn changes(
     alloc: Global,
     reader: &ReportReader,
@@ -63,6 +65,8 @@ pub fn changes(
     ensures released { IfOk result (λ c. AreOnlyIn (on_in reader.now kind before.now) (on_in reader.now kind now.now) c.released.items) }
     ensures taken { IfOk result (λ _. changes_refusal reader.now.descriptor kind before.now now.now ≡ None) }
     ensures refused { IfErr result (λ e. e ≢ ReadingError.Memory → changes_refusal reader.now.descriptor kind before.now now.now ≡ Some e) }
+    ensures memory { IfErr result (λ e. e ≡ ReadingError.Memory → changes_refusal reader.now.descriptor kind before.now now.now ≡ None) }
+    ensures wanted { IfErr result (λ e. e ≡ ReadingError.Memory → on_in reader.now kind before.now ++ on_in reader.now kind now.now ≢ []) }
 {
     let earlier = reader.read(kind, before)?;
     let later = reader.read(kind, now)?;
@@ -83,7 +87,8 @@ fn gather(
     descriptor: &Descriptor,
     reading: Reading<'_>,
 ) -> Result<Vec<u32>, AllocError>
-    ensures { IfOk result (λ v. v.items ≡ on_by_all descriptor.now reading.entry.left) }
+    ensures gathered { IfOk result (λ v. v.items ≡ on_by_all descriptor.now reading.entry.left) }
+    ensures refused { OnErr result (on_by_all descriptor.now reading.entry.left ≢ []) }
 {
     let mut usages = Vec::new(alloc);
     for value in reading {
@@ -146,7 +151,8 @@ fn make_rising(usages: &mut Vec<u32>)
 /// The usages that only the first of two lists has, which both rise.
 fn only_in(alloc: Global, these: &[u32], those: &[u32]) -> Result<Vec<u32>, AllocError>
     requires { IsStrictlyIncreasing those.now }
-    ensures { IfOk result (λ v. v.items ≡ filter (λ usage. not (is_listed those.now usage)) these.now) }
+    ensures only { IfOk result (λ v. v.items ≡ filter (λ usage. not (is_listed those.now usage)) these.now) }
+    ensures refused { OnErr result (these.now ≢ []) }
 {
     let mut only = Vec::new(alloc);
     for usage in these {

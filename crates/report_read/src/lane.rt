@@ -14,7 +14,7 @@ ghost use Rattle.report_read.specs.representation.Lanes.{IsLane, IsForm, IsWay};
 use crate::value::Value;
 use descriptor_parse::{Descriptor, Field};
 use field_values::{Within, is_within, usage_of};
-use host_extract::{number_at, value_at};
+use host_extract::{byte_at, number_at, value_at};
 use report_write::{Kept, usages_of};
 
 /// How the values of a field lie in a report.
@@ -150,17 +150,6 @@ fn way_of(field: &Field, ranges: &[(u32, u32)]) -> (Way, u32, u32)
     };
     let way = if field.array { Way::Named } else { Way::Own };
     (way, *first, last - first)
-}
-
-/// A byte of a report, 0 past its end.
-#[inline(always)]
-fn byte_at(bytes: &[u8], index: u64) -> u32
-    ensures { result ≡ slice_index bytes.now index }
-{
-    match bytes.get(index as usize) {
-        Some(byte) => *byte as u32,
-        None => 0,
-    }
 }
 
 /// Where a value is that is within the logical extents or not.

@@ -1,5 +1,5 @@
 -- Places of an Array that a usage is taken out of, one after the other.
-use Rattle.std.proofs.Common.{◌≡◌, ◌≢◌, ℕ, ◌+◌, ◌*◌, ◌<◌, ◌≤◌, Bool, true, false, List, length, arith, refl, sym, ◌∙◌, ap, inl, inr}
+use Rattle.std.proofs.Common.{◌≡◌, ℕ, ◌+◌, ◌*◌, ◌<◌, ◌≤◌, Bool, true, false, List, length, arith, refl, sym, ◌∙◌, ap, inl, inr}
 use Rattle.std.specs.Prelude.{ℤ}
 use Rattle.std.proofs.lemmas.Bool.{cases_lt, le-ltb}
 use Rattle.descriptor_parse.specs.declared.field.Field.{Field}
@@ -29,9 +29,6 @@ pub record ArePutTo (field : Field) (test : ℕ → Bool) (value : ℤ) (old : L
   pub there : (place : ℕ) → place < count → test place ≡ true → value_at field now place ≡ value
   pub others : (bit : ℕ) → ((place : ℕ) → place < count → test place ≡ true → IsOutside (place_bit field place) field.size bit)
       → report_bit now bit ≡ report_bit old bit
-
-pub none_put : (field : Field) (test : ℕ → Bool) (value : ℤ) (old : List ℕ) → ArePutTo field test value old 0 old
-none_put field test value old = record { long = refl; there = λ p l t. absurd (omega arith); others = λ bit o. refl }
 
 -- the places from there on hold what they held
 pub ahead : (field : Field) (test : ℕ → Bool) (value : ℤ) (old : List ℕ) (count : ℕ) (now : List ℕ) (place : ℕ) → ArePutTo field test value old count now

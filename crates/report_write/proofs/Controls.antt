@@ -7,7 +7,6 @@ use Rattle.std.proofs.lemmas.List.{append-nil, take_all, take_more, take-append-
 use Rattle.std.proofs.lemmas.List.Concat.{get_or-flat_map}
 use Rattle.std.proofs.lemmas.List.Folds.{length-flat_map-take, find-append}
 use Rattle.std.proofs.lemmas.List.Sums.{position_or_len_is}
-use Rattle.std.proofs.lemmas.Grind.{flat_map-append}
 use Rattle.descriptor_parse.specs.declared.field.Field.{Field}
 use Rattle.descriptor_parse.specs.Descriptor.{DescriptorValue, ranges_at, usage_list, usage_of_place}
 use Rattle.field_values.specs.Lists.{IsFirst, IsUnlisted}
@@ -119,12 +118,6 @@ unfolding controls
 controls_are d usage kept = refl
 
 -- ---- lists in a row
-
-pub row_step : {X A : Type 0} (f : X → List A) (xs : List X) (i : ℕ) (d : X) → i < length xs
-    → length (flat_map f (take (i + 1) xs)) ≡ length (flat_map f (take i xs)) + length (f (get_or xs i d))
-row_step f xs i d l =
-    rw (take_more xs i d l, flat_map-append f (take i xs) (get_or xs i d ∷ []), append-nil (f (get_or xs i d)))
-    (length-append (flat_map f (take i xs)) (f (get_or xs i d)))
 
 pub row_found : {X A : Type 0} (f : X → List A) (xs : List X) (i left place : ℕ) (d : X) → i < length xs → left < length (f (get_or xs i d))
     → length (flat_map f (take i xs)) + left ≡ place → slice_get (flat_map f xs) place ≡ slice_get (f (get_or xs i d)) left

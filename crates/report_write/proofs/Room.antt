@@ -114,16 +114,3 @@ next_left d null_states kind id number fields default b items all l is fails a =
     record { kept = a.kept ∙ sym (one_left d null_states kind id number default (rw all at l) other); fit = a.fit }
 
 -- ---- more room
-
-pub more_room : (d : DescriptorValue) (room more : ℕ) (kept : Kept) → room ≤ more → FitsKept d room kept → FitsKept d more kept
-more_room d room more kept l f = record {
-  fits = record {
-    reading = f.fits.reading;
-    limits = f.fits.limits;
-    size_some = f.fits.size_some;
-    count_some = f.fits.count_some;
-    few = f.fits.few;
-    end = omega (arith, f.fits.end);
-    in_order = f.fits.in_order;
-  };
-}

@@ -1,6 +1,6 @@
 -- Places of a Variable field that have a usage, counted range by range.
-use Rattle.std.proofs.Common.{◌≡◌, ◌≢◌, ℕ, zero, suc, ◌+◌, ◌-◌, ◌<◌, ◌≤◌, Bool, true, false, List, length, take, get_or, arith, refl, sym, ◌∙◌, ap, inl, inr, Some, None}
-use Rattle.std.specs.Prelude.{◌⊎◌, Option, ◌==◌, not, min, slice_get}
+use Rattle.std.proofs.Common.{◌≡◌, ◌≢◌, ℕ, zero, suc, ◌+◌, ◌-◌, ◌<◌, ◌≤◌, true, false, List, length, get_or, arith, refl, sym, ◌∙◌, ap, inl, inr, Some, None}
+use Rattle.std.specs.Prelude.{◌==◌, not, min, slice_get}
 use Rattle.std.proofs.lemmas.Bool.{cases_lt, eq-eqb, ne_eqb}
 use Rattle.std.proofs.lemmas.List.{take_all}
 use Rattle.std.proofs.lemmas.Option.{slice_get_within}
@@ -110,14 +110,6 @@ range_counted field ranges range usage place variable l o =
     (low, its, omega (arith, low, one, high))
 
 -- ---- past the list
-
-pub served_same : (field : Field) (usages : List ℕ) (place : ℕ) → field.array ≡ false → length usages ≤ place → place < field.count
-    → usage_of_place field usages place ≡ usage_of_place field usages (length usages)
-served_same field usages place variable past within =
-    let one : length usages - 1 ≡ min place (length usages - 1) = omega arith in
-    let other : length usages - 1 ≡ min (length usages) (length usages - 1) = omega arith in
-    sym (place_within field usages place (length usages) (length usages - 1) _ variable within refl one refl)
-    ∙ place_within field usages (length usages) (length usages) (length usages - 1) _ variable (omega arith) refl other refl
 
 not_zero : (n : ℕ) → n ≢ 0 → not (n == 0) ≡ true
 not_zero n some = ap not (ne_eqb n 0 some)

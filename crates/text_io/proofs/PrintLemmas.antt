@@ -1,13 +1,8 @@
 -- Printing to a writer.
-use Rattle.std.proofs.Common.{◌≡◌, ℕ, List, [], Option, None, Some, IfSome, ap, append-nil, refl}
+use Rattle.std.proofs.Common.{◌≡◌, ℕ, List, Option, None, Some, IfSome}
 use Rattle.std.specs.Fmt.{WritesText}
-use Rattle.std.specs.Io.KnownBytes.{Appends, append_known}
+use Rattle.std.specs.Io.KnownBytes.{Appends}
 use Rattle.std.proofs.KnownBytes.{Appends-of_writes}
-
--- nothing waits in a new printer
-pub append_known-nil : (known : Option (List ℕ)) → append_known known [] ≡ known
-append_known-nil None = refl
-append_known-nil (Some xs) = ap Some (append-nil xs)
 
 module _ {W N : Type 0} (name : W → N) (contents : W → Option (List ℕ)) where
   -- calls that each keep the writer and append what they are given

@@ -1,28 +1,24 @@
 -- The address of the controller: reported, or set to 0 by a reset.
-use Rattle.std.proofs.Common.{◌≡◌, ℕ, Bool, true, false, List, [], ◌∷◌, ◌++◌, append_assoc, Option, Some, None, refl, sym, ap, subst, ◌∙◌, inl, inr}
+use Rattle.std.proofs.lemmas.Grind.{common_steps}
+use Rattle.std.proofs.Common.{arith}
+use Rattle.std.proofs.Common.{◌≡◌, ℕ, Bool, true, false, List, [], ◌∷◌, ◌++◌, append_assoc, Option, refl, sym, ap, ◌∙◌}
 use Rattle.usb_device.specs.Calls.{EpCall, SetUp, Out, In, Polled, BusReset}
 use Rattle.usb_device.specs.Addresses.{StaysBy, Stays, StaysOrReset, Tells, Addressed}
-use Rattle.usb_device.specs.Bus.{Bus, InMode, OutMode, Happens, sets_up, takes_in, loses_ack, brings_out, stalls, resets, Goes, is_pending, unless_pending, with_input, with_output}
+use Rattle.usb_device.specs.Bus.{Bus, InMode, OutMode, Happens, Goes, is_pending, unless_pending, with_input, with_output}
 use Rattle.usb_device.specs.Bus1.{beside, Adds, KeptOrReset, KeptUnless}
 
 was_reset : (b next c : Bus) → next ≡ c → (b.met.reset ≡ true → c.met.reset ≡ true) → b.met.reset ≡ true → next.met.reset ≡ true
 was_reset b next c e h r = ap (λ (x : Bus). x.met.reset) e ∙ h r
 
 step : (b next : Bus) → Happens b next → b.met.reset ≡ true → next.met.reset ≡ true
-step b next (sets_up bytes e) r = was_reset b next _ e (λ x. x) r
-step b next (takes_in packet has i e) r = was_reset b next _ e (λ x. x) r
-step b next (loses_ack packet has i e) r = was_reset b next _ e (λ x. x) r
-step b next (brings_out packet o e) r = was_reset b next _ e (λ x. x) r
-step b next (stalls e) r = was_reset b next _ e (λ x. x) r
-step b next (resets e) r = was_reset b next _ e (λ x. refl) r
+step b next h1 h2 = grind (arith, common_steps)
 
 pub reset_goes : (steps : List Bus) (b next : Bus) → Goes steps b next → b.met.reset ≡ true → next.met.reset ≡ true
 reset_goes [] b next e r = was_reset b next b e (λ x. x) r
 reset_goes (mid ∷ rest) b next g r = reset_goes rest mid next g.1 (step b mid g.0 r)
 
 set_reset : (pending : Bool) (b next : Bus) → next.met ≡ b.met → b.met.reset ≡ true → (unless_pending pending b next).met.reset ≡ true
-set_reset true b next e r = r
-set_reset false b next e r = ap (λ m. m.reset) e ∙ r
+set_reset pending b next h1 h2 = grind (arith, common_steps)
 
 pub input_stays : (steps : List Bus) (b mid new : Bus) (mode : InMode) (x y : ℕ) → Goes steps b mid → new ≡ with_input mid mode → StaysBy new.met.reset x y → Stays b new x y
 input_stays steps b mid new mode x y g e s =
@@ -34,21 +30,17 @@ output_stays steps b mid new mode x y g e s =
 
 -- one behind the other
 zeroed : (r : Bool) (x y : ℕ) → StaysBy r x y → r ≡ true → y ≡ 0
-zeroed true x y s e = s
-zeroed false x y s e = absurd (let t : false ≡ true = e in cc)
+zeroed r x y h1 h2 = grind (arith, common_steps)
 
 then_by : (r q : Bool) (x y z : ℕ) → (r ≡ true → q ≡ true) → StaysBy r x y → StaysBy q y z → StaysBy q x z
-then_by r true x y z m s t = t
-then_by true false x y z m s t = absurd (let e : false ≡ true = m refl in cc)
-then_by false false x y z m s t = t ∙ s
+then_by r q x y z h1 h2 h3 = grind (arith, common_steps)
 
 pub stays_then : (b c d : Bus) (x y z : ℕ) → Stays b c x y → Stays c d y z → Stays b d x z
 stays_then b c d x y z (m, f) (n, k) =
     ((λ r. n (m r)), λ o. then_by c.met.reset d.met.reset x y z n (f o) (k (λ r. zeroed c.met.reset x y (f o) r)))
 
 still_by : (r : Bool) (x : ℕ) → (r ≡ true → x ≡ 0) → StaysBy r x x
-still_by true x o = o refl
-still_by false x o = refl
+still_by r x h1 = grind (arith, common_steps)
 
 pub stays_still : (b : Bus) (x : ℕ) → Stays b b x x
 stays_still b x = ((λ r. r), λ o. still_by b.met.reset x o)
@@ -56,10 +48,7 @@ stays_still b x = ((λ r. r), λ o. still_by b.met.reset x o)
 -- a look at what was met, and what was done behind it
 pub served_stays : (reset now : Bool) (calls later : List EpCall) (x y z : ℕ) → StaysBy reset x y → StaysBy now y z → KeptUnless reset calls later
     → StaysOrReset now calls later x z
-served_stays true true calls later x y z s t k = inr (k, t)
-served_stays true false calls later x y z s t k = inr (k, t ∙ s)
-served_stays false true calls later x y z s t k = inl (k, t)
-served_stays false false calls later x y z s t k = inl (k, t ∙ s)
+served_stays reset now calls later x y z h1 h2 h3 = grind (arith, common_steps)
 
 pub adds_none : (calls : List EpCall) → Adds [] calls calls
 adds_none calls = ([], refl, refl)
@@ -81,19 +70,8 @@ kept_further true calls mid later k e = adds_more (BusReset ∷ []) calls mid la
 kept_further false calls mid later k e = adds_more [] calls mid later k e
 
 pub kept_or : (reset : Bool) (calls later : List EpCall) → KeptUnless reset calls later → KeptOrReset calls later
-kept_or true calls later k = inr k
-kept_or false calls later k = inl k
-
--- then the address is reported, or nothing
-unreported : (b next : Bus) (calls later : List EpCall) (x y z : ℕ) → (next ≡ b) × (z ≡ y) → StaysOrReset b.met.reset calls later x y
-    → StaysOrReset next.met.reset calls later x z
-unreported b next calls later x y z (e, f) s =
-    let P : Bus → Type 0 = λ c. StaysOrReset c.met.reset calls later x z in
-    let Q : ℕ → Type 0 = λ n. StaysOrReset b.met.reset calls later x n in
-    subst P (sym e) (subst Q (sym f) s)
+kept_or reset calls later h1 = grind (arith, common_steps)
 
 pub addressed : (done : Bool) (due : Option ℕ) (b next : Bus) (calls later : List EpCall) (x y z : ℕ) → Tells done due b next y z
     → StaysOrReset b.met.reset calls later x y → Addressed done due next.met.reset calls later x z
-addressed true (Some address) b next calls later x y z t s = t
-addressed true None b next calls later x y z t s = unreported b next calls later x y z t s
-addressed false due b next calls later x y z t s = unreported b next calls later x y z t s
+addressed done due b next calls later x y z h1 h2 = grind (arith, common_steps)

@@ -1,9 +1,9 @@
 -- What a device with its layer confirmed, the device behind confirmed.
+use Rattle.std.proofs.lemmas.Grind.{common_steps}
+use Rattle.std.proofs.Common.{arith}
 use Rattle.std.proofs.Common.{◌≡◌, ℕ, List, [], ◌∷◌, Option, Some, None, refl, ◌∙◌, inl, inr}
 use Rattle.usb_device.specs.declared.answer.EpAnswer.{EpAnswer}
-use Rattle.usb_device.specs.declared.answer.EpAnswer.TheVariants.{Ack, Nak, Packet, Stall}
 use Rattle.usb_device.specs.declared.answer.Endpoint1.{Endpoint1}
-use Rattle.usb_device.specs.declared.answer.Endpoint1.TheVariants.{Off, Ready, Halted}
 use Rattle.usb_device.specs.Calls.{EpCall, SetUp, Out, In, Polled, BusReset}
 use Rattle.usb_device.specs.Requests.{Lent}
 use Rattle.usb_device.specs.Events.{Event, SetupCame, OutCame, InAsked, PollAsked, ResetCame, SuspendCame, ResumeCame, WakeAsked}
@@ -22,46 +22,22 @@ Aligned Over behind calls = Unit {0}
 
 at_setup : (stage : Stage) (bytes : List ℕ) (behind calls : List EpCall) → Aligned stage (SetUp bytes ∷ behind) (SetUp bytes ∷ calls)
 unfolding Aligned
-at_setup Theirs bytes behind calls = refl
-at_setup (Sending data_ asked sent) bytes behind calls = refl
-at_setup (Status change) bytes behind calls = refl
-at_setup Over bytes behind calls = tt
-
-at_out_theirs : (packet : List ℕ) (answer : EpAnswer) (behind calls : List EpCall) → taken_of behind ≡ taken_of calls
-    → taken_of (Out packet answer ∷ behind) ≡ taken_of (Out packet answer ∷ calls)
-at_out_theirs packet Ack behind calls e = refl
-at_out_theirs packet Nak behind calls e = e
-at_out_theirs packet (Packet bytes) behind calls e = e
-at_out_theirs packet Stall behind calls e = e
+at_setup stage bytes behind calls = grind (arith, common_steps)
 
 at_out : (stage : Stage) (packet : List ℕ) (answer : EpAnswer) (behind calls : List EpCall) → Aligned stage behind calls
     → Aligned (after_out stage) (call_if_theirs stage (Out packet answer) behind) (Out packet answer ∷ calls)
 unfolding Aligned
-at_out Theirs packet answer behind calls a = at_out_theirs packet answer behind calls a
-at_out (Sending bytes asked sent) packet answer behind calls a = tt
-at_out (Status change) packet answer behind calls a = tt
-at_out Over packet answer behind calls a = tt
+at_out stage packet answer behind calls h1 = grind (arith, common_steps)
 
 at_in : (stage : Stage) (answer : EpAnswer) (behind calls : List EpCall) → Aligned stage behind calls
     → Aligned (after_in stage answer) (call_if_theirs stage (In answer) behind) (In answer ∷ calls)
 unfolding Aligned
-at_in Theirs answer behind calls a = a
-at_in (Sending bytes asked sent) Ack behind calls a = a
-at_in (Sending bytes asked sent) Nak behind calls a = a
-at_in (Sending bytes asked sent) (Packet packet) behind calls a = a
-at_in (Sending bytes asked sent) Stall behind calls a = tt
-at_in (Status change) answer behind calls a = tt
-at_in Over answer behind calls a = tt
+at_in stage answer behind calls h1 = grind (arith, common_steps)
 
 at_poll : (stage : Stage) (endpoint : Endpoint1) (answer : Option (List ℕ)) (behind calls : List EpCall) → Aligned stage behind calls
     → Aligned stage (call_if_ready endpoint (Polled answer) behind) (Polled answer ∷ calls)
 unfolding Aligned
-at_poll Theirs Off answer behind calls a = a
-at_poll Theirs Ready answer behind calls a = a
-at_poll Theirs Halted answer behind calls a = a
-at_poll (Sending bytes asked sent) endpoint answer behind calls a = a
-at_poll (Status change) endpoint answer behind calls a = a
-at_poll Over endpoint answer behind calls a = tt
+at_poll stage endpoint answer behind calls h1 = grind (arith, common_steps)
 
 at_reset : (behind calls : List EpCall) → Aligned Theirs (BusReset ∷ behind) (BusReset ∷ calls)
 unfolding Aligned
@@ -84,15 +60,10 @@ aligned lent (ResumeCame ∷ past) = aligned lent past
 aligned lent (WakeAsked has_report answer ∷ past) = aligned lent past
 
 asked_if_theirs : (stage : Stage) (call : EpCall) (behind : List EpCall) → asked_of (call ∷ behind) ≡ asked_of behind → asked_of (call_if_theirs stage call behind) ≡ asked_of behind
-asked_if_theirs Theirs call behind e = e
-asked_if_theirs (Sending bytes asked sent) call behind e = refl
-asked_if_theirs (Status change) call behind e = refl
-asked_if_theirs Over call behind e = refl
+asked_if_theirs stage call behind h1 = grind (arith, common_steps)
 
 asked_if_ready : (endpoint : Endpoint1) (answer : Option (List ℕ)) (behind : List EpCall) → asked_of (call_if_ready endpoint (Polled answer) behind) ≡ asked_of behind
-asked_if_ready Off answer behind = refl
-asked_if_ready Ready answer behind = refl
-asked_if_ready Halted answer behind = refl
+asked_if_ready endpoint answer behind = grind (arith, common_steps)
 
 asked_same : (lent : Lent) (past : List Event) → asked_of (session lent past) ≡ asked_of (calls_of past)
 unfolding session
@@ -108,26 +79,18 @@ asked_same lent (WakeAsked has_report answer ∷ past) = asked_same lent past
 
 grows_theirs : (stage : Stage) (call : EpCall) (behind : List EpCall) (sent : List Seen) (s d : List ℕ) → TakesOnly sent behind call → ConfirmedBefore sent s d behind
     → ConfirmedBefore sent s d (call_if_theirs stage call behind)
-grows_theirs Theirs call behind sent s d t w = inr (t, w)
-grows_theirs (Sending bytes asked count) call behind sent s d t w = w
-grows_theirs (Status change) call behind sent s d t w = w
-grows_theirs Over call behind sent s d t w = w
+grows_theirs stage call behind sent s d h1 h2 = grind (arith, common_steps)
 
 grows_ready : (endpoint : Endpoint1) (answer : Option (List ℕ)) (behind : List EpCall) (sent : List Seen) (s d : List ℕ) → ConfirmedBefore sent s d behind
     → ConfirmedBefore sent s d (call_if_ready endpoint (Polled answer) behind)
-grows_ready Off answer behind sent s d w = w
-grows_ready Ready answer behind sent s d w = inr (tt, w)
-grows_ready Halted answer behind sent s d w = w
+grows_ready endpoint answer behind sent s d h1 = grind (arith, common_steps)
 
 -- the empty packet of a write is that of the device behind
 confirms : (stage : Stage) (answer : EpAnswer) (behind calls : List EpCall) (sent : List Seen) (s d : List ℕ) → Aligned stage behind calls → InAnswer stage answer
     → asked_of behind ≡ asked_of calls → In answer ≡ confirmation → asked_of calls ≡ Some s → taken_of calls ≡ Some d
     → ConfirmedBefore sent s d (call_if_theirs stage (In answer) behind)
 unfolding Aligned
-confirms Theirs answer behind calls sent s d a i q e es ed = inl (e, q ∙ es, a ∙ ed)
-confirms (Sending bytes asked count) answer behind calls sent s d a i q e es ed = cc
-confirms (Status change) answer behind calls sent s d a i q e es ed = cc
-confirms Over answer behind calls sent s d a i q e es ed = cc
+confirms stage answer behind calls sent s d h1 h2 h3 h4 h5 h6 = grind (arith, common_steps)
 
 pub behind_confirmed : (lent : Lent) (past : List Event) (sent : List Seen) (s d : List ℕ) → AllAnswered lent past → ConfirmedBefore sent s d (calls_of past)
     → ConfirmedBefore sent s d (session lent past)

@@ -1,10 +1,10 @@
 -- What is kept for a host that is to forget, call by call.
-use Rattle.std.proofs.Common.{◌≡◌, ℕ, ◌==◌, ◌&&◌, ◌||◌, not, Bool, true, false, List, [], ◌∷◌, Option, Some, refl, sym, ap, subst, ◌∙◌}
+use Rattle.std.proofs.Common.{◌≡◌, ℕ, ◌==◌, ◌&&◌, ◌||◌, not, true, false, List, [], ◌∷◌, Option, Some, sym, ap, subst, ◌∙◌}
 use Rattle.usb_device.specs.declared.answer.EpAnswer.{EpAnswer}
 use Rattle.usb_device.specs.declared.forgetting.Forgets.{Forgets}
 use Rattle.usb_device.specs.Bus1.{sets_protocol}
 use Rattle.usb_device.specs.Calls.{EpCall, SetUp, Out, In, Polled, BusReset}
-use Rattle.usb_device.specs.Forgetting.{Shows, none, same, instead, was_set, given, is_boot, is_due, names_boot, chosen, bytes_of, blank}
+use Rattle.usb_device.specs.Forgetting.{Shows, none, same, instead, given, is_boot, names_boot, chosen, bytes_of, blank}
 use Rattle.usb_device.specs.States.{is_empty_packet}
 use Rattle.usb_device.specs.representation.Forgetting.{RefinesBehind, forgets_of}
 
@@ -84,7 +84,3 @@ on_reset refines calls f n behind new e s b = record {
   shows = same BusReset calls b.passed tt b.shows;
   session = s b.passed b.session;
 }
-
-pub on_work : {E : Type 0} (refines : Relation E) (calls : List EpCall) (f : Forgets) (behind new : E)
-    → ((past : List EpCall) → refines past behind → refines past new) → RefinesBehind refines calls f behind → RefinesBehind refines calls f new
-on_work refines calls f behind new s b = record { kept = b.kept; passed = b.passed; shows = b.shows; session = s b.passed b.session }

@@ -1,4 +1,5 @@
 -- What packets a host took as new, and what reports they are.
+use Rattle.std.proofs.lemmas.Grind.{common_steps}
 use Rattle.std.proofs.Common.{◌≡◌, ℕ, ◌+◌, Bool, true, false, not, List, [], ◌∷◌, ◌++◌, length, drop, zero, suc, refl, sym, ap, subst, ◌∙◌, ◌⊎◌, inl, inr, arith}
 use Rattle.usb_device.specs.declared.answer.Endpoint1.{Endpoint1}
 use Rattle.usb_device.specs.Bus1.{Got, New, Anew, GivenUp, same, received, Sent, Reported, Changed, is_old, newest}
@@ -54,8 +55,7 @@ snoc-append [] x ys = refl
 snoc-append (z ∷ xs) x ys = ap (λ r. z ∷ r) (snoc-append xs x ys)
 
 pub snoc_some : {A : Type 0} (xs : List A) (x : A) → xs ++ x ∷ [] ≡ [] → ⊥
-snoc_some [] x e = cc
-snoc_some (z ∷ xs) x e = cc
+snoc_some xs x h1 = grind (arith, common_steps)
 
 pub snoc-length : {A : Type 0} (xs : List A) (x : A) → length (xs ++ x ∷ []) ≡ length xs + 1
 snoc-length [] x = omega arith
@@ -105,9 +105,7 @@ gives_up size report (Reported r ∷ sent) earlier got b o n = absurd (true_fals
 
 -- where it was not set
 pub newest_now : (sent : List Sent) → is_old sent ≡ false → newest sent ≡ sent
-newest_now [] o = refl
-newest_now (Changed ∷ sent) o = absurd (true_false o)
-newest_now (Reported r ∷ sent) o = refl
+newest_now sent h1 = grind (arith, common_steps)
 
 pub whole : (size : ℕ) (report : List ℕ) (got pieces before : List Got) (earlier : List Sent) → got ≡ pieces ++ before → ArePieces size report pieces
     → (pieces ≡ []) ⊎ MayRepeat pieces before → Carries size before earlier → Carries size (with_new (packets_of size report) got) (Reported report ∷ earlier)
@@ -165,13 +163,10 @@ length-cut size zero bytes = refl
 length-cut size (suc count) bytes = let e = length-cut size count (drop size bytes) in omega (arith, e)
 
 pub received_will : (a : Bool) (packet : List ℕ) (rest : List (List ℕ)) (got : List Got) → with_new (new_of a (packet ∷ rest)) got ≡ with_new rest (received a packet got)
-received_will true packet rest got = refl
-received_will false packet rest got = refl
+received_will a packet rest got = grind (arith, common_steps)
 
 pub same_self : (x : Bool) → same x x ≡ true
-same_self true = refl
-same_self false = refl
+same_self x = grind (arith, common_steps)
 
 pub same_not : (x : Bool) → same (not x) x ≡ false
-same_not true = refl
-same_not false = refl
+same_not x = grind (arith, common_steps)

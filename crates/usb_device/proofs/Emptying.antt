@@ -1,4 +1,5 @@
 -- What keeps the link of endpoint 1 where the buffers are emptied.
+use Rattle.std.proofs.lemmas.Grind.{common_steps}
 use Rattle.std.proofs.Common.{◌≡◌, ℕ, Bool, true, false, not, List, [], ◌∷◌, ◌++◌, length, ◌-◌, ◌&&◌, ◌<◌, ◌≤◌, refl, sym, ap, subst, ◌∙◌, inl, inr, nat_lt, arith}
 use Rattle.usb_device.specs.declared.report_buffers.Course.{Course}
 use Rattle.usb_device.specs.declared.report_buffers.Course.TheVariants.{Rests, Begins, Goes}
@@ -7,7 +8,7 @@ use Rattle.usb_device.specs.Confirmed.{asked_of}
 use Rattle.usb_device.specs.declared.answer.Endpoint1.{Endpoint1}
 use Rattle.usb_device.specs.Bus1.{Got, Anew, GivenUp, Sent, Changed, sent_of, is_old, newest, sets_protocol, given_up, Bus1, unless_reset, anew}
 use Rattle.usb_device.specs.Reports.{cut, count_of, packets_of, Carries, Begun}
-use Rattle.usb_device.specs.representation.Link1.{ReportState, is_begun, to_hand, copies, Agrees, Resting, Going, Now1, Link1}
+use Rattle.usb_device.specs.representation.Link1.{core, ReportState, is_begun, to_hand, copies, Agrees, Resting, Going, Now1, Link1}
 use Rattle.usb_device.proofs.Carrying.{true_false, marked_carries, any_carries, gives_up, newest_now, length-append, length-cut}
 
 -- the device begins anew
@@ -60,7 +61,7 @@ pub anew_by : (reset : Bool) (s : ReportState) (left : ℕ) (state : Endpoint1) 
 unfolding set_anew
 anew_by true s left state b calls k e h = record { asked = h.asked; fresh = h.fresh; current = λ r. absurd (true_false (sym e ∙ r)) }
 anew_by false s left state b calls k e h =
-    record { asked = h.asked; fresh = λ r. absurd (true_false (sym r ∙ e)); current = λ r. anew_now s.course s left state b calls k (h.current e) }
+    record { asked = h.asked; fresh = λ r. absurd (true_false (sym r ∙ e)); current = λ r. anew_now s.course (core s) 0 state b calls k (h.current e) }
 
 pub anew_link : (s : ReportState) (left : ℕ) (state : Endpoint1) (b : Bus1) (calls : List EpCall) → (s.course ≡ Goes → s.old ≡ false) → Link1 s b calls
     → Link1 (record s { course = anew_course s.course; unsure = true; lost = false; left = left }) (anew b state) calls
@@ -99,9 +100,7 @@ unsure_by _ x = x
 
 given_up_agrees : (unsure lost : Bool) (b : Bus1) → Agrees unsure lost b → Agrees unsure lost (set_given_up b)
 unfolding set_given_up
-given_up_agrees true true b a = a
-given_up_agrees true false b a = a
-given_up_agrees false lost b a = a
+given_up_agrees unsure lost b h1 = grind (arith, common_steps)
 
 pub given_up_now : (course : Course) (s : ReportState) (b : Bus1) (calls later : List EpCall) → (course ≡ Rests → ⊥)
     → ((course ≡ Goes → is_old (sent_of calls) ≡ s.old) → is_old (sent_of later) ≡ true) → newest (sent_of later) ≡ newest (sent_of calls) → Now1 course s b calls
@@ -131,7 +130,7 @@ given_up_by true s b calls later e k o n a h = record {
 given_up_by false s b calls later e k o n a h = record {
   asked = h.asked ∙ ap (λ x. sets_protocol x) (sym a);
   fresh = λ r. absurd (true_false (sym r ∙ e));
-  current = λ r. given_up_now s.course s b calls later k o n (h.current e);
+  current = λ r. given_up_now s.course (core s) b calls later k o n (h.current e);
 }
 
 pub given_up_went : (s : ReportState) (b : Bus1) (calls later : List EpCall) → s.course ≡ Goes
@@ -198,22 +197,22 @@ goes_on_now s b calls later i e h =
 pub goes_on : (s : ReportState) (b : Bus1) (calls later : List EpCall) → s.course ≡ Goes → is_begun s ≡ true → sent_of later ≡ Changed ∷ sent_of calls
     → asked_of later ≡ asked_of calls → Link1 s b calls → Link1 (record s { old = true }) b later
 goes_on s b calls later c i e a h =
-    let N : Course → Type 0 = λ x. Now1 x s b calls in
-    let M : Course → Type 0 = λ x. Now1 x (record s { old = true }) b later in
+    let N : Course → Type 0 = λ x. Now1 x (core s) b calls in
+    let M : Course → Type 0 = λ x. Now1 x (core (record s { old = true })) b later in
     record {
       asked = h.asked ∙ ap (λ x. sets_protocol x) (sym a);
       fresh = h.fresh;
-      current = λ r. subst M (sym c) (goes_on_now s b calls later i e (subst N c (h.current r)));
+      current = λ r. subst M (sym c) (goes_on_now (core s) b calls later i e (subst N c (h.current r)));
     }
 
 -- or none is under way
 pub changed_rests : (s : ReportState) (b : Bus1) (calls later : List EpCall) → s.course ≡ Rests → sent_of later ≡ Changed ∷ sent_of calls
     → asked_of later ≡ asked_of calls → Link1 s b calls → Link1 s b later
 changed_rests s b calls later c e a h =
-    let N : Course → Type 0 = λ x. Now1 x s b calls in
-    let M : Course → Type 0 = λ x. Now1 x s b later in
+    let N : Course → Type 0 = λ x. Now1 x (core s) b calls in
+    let M : Course → Type 0 = λ x. Now1 x (core s) b later in
     let C : List Sent → Type 0 = λ x. Carries s.size b.got x in
-    let rest : Resting s b calls → Resting s b later =
+    let rest : Resting (core s) b calls → Resting (core s) b later =
     λ k. record { free = k.free; carried = subst C (sym e) (any_carries s.size b.got (sent_of calls) k.carried); marked = k.marked } in
     record {
       asked = h.asked ∙ ap (λ x. sets_protocol x) (sym a);

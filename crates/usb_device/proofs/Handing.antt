@@ -1,21 +1,21 @@
 -- What is handed over to the buffers of endpoint 1.
-use Rattle.std.proofs.Common.{◌==◌, ◌≡◌, ℕ, ◌+◌, Bool, true, false, List, [], ◌∷◌, ◌++◌, length, ◌&&◌, ◌||◌, ◌<◌, ◌≤◌, None, refl, sym, ap, subst, ◌∙◌, ◌⊎◌, inl, inr, nat_lt, arith}
+use Rattle.std.proofs.lemmas.Grind.{common_steps}
+use Rattle.std.proofs.Common.{◌==◌, ◌≡◌, ℕ, ◌+◌, Bool, true, false, List, [], ◌∷◌, ◌++◌, length, ◌&&◌, ◌||◌, ◌<◌, ◌≤◌, None, refl, sym, ap, subst, ◌∙◌, ◌⊎◌, inl, inr, arith}
 use Rattle.usb_device.specs.declared.report_buffers.Course.{Course}
 use Rattle.usb_device.specs.declared.report_buffers.Course.TheVariants.{Rests, Begins, Goes}
 use Rattle.usb_device.specs.Calls.{EpCall, Polled}
 use Rattle.usb_device.specs.Bus1.{Bus1, Reported, newest, is_old, blank, agree, Goes1, unless_reset, filled, room_of}
 use Rattle.usb_device.specs.Reports.{cut, count_of, packets_of, with_new, HasNew, Carries}
-use Rattle.usb_device.specs.representation.Link1.{may_send, IsHeld, NothingWithheld, all_handed, all_full, was_reset, has_none, ReportState, is_more, to_hand, copies, new_of, ArePackets, Agrees, Beginning, Going, Now1, Link1}
+use Rattle.usb_device.specs.representation.Link1.{core, may_send, IsHeld, NothingWithheld, was_reset, has_none, ReportState, is_more, to_hand, copies, new_of, ArePackets, Agrees, Beginning, Going, Now1, Link1}
 use Rattle.usb_device.proofs.Carrying.{true_false, all_own, own-append, own_copies, snoc-append, snoc_some, snoc-length, length-append, length-cut, will}
-use Rattle.usb_device.proofs.Reporting.{goes1, lt_true, positive, lt_suc, bool_cases}
+use Rattle.usb_device.proofs.Reporting.{goes1, positive, lt_suc, bool_cases}
 
 -- a packet is put into a buffer
 pub set_full : Bus1 → List ℕ → Bus1
 set_full b packet = record { got = b.got; host = b.host; device = b.device; slots = b.slots ++ packet ∷ []; taken = b.taken; opened = false; reset = b.reset }
 
 pub agrees_sure : (unsure lost : Bool) (b : Bus1) → Agrees unsure lost b → unsure ≡ false → agree b ≡ true
-agrees_sure true lost b a e = absurd (true_false e)
-agrees_sure false lost b a e = a.0
+agrees_sure unsure lost b h1 h2 = grind (arith, common_steps)
 
 -- all packets of a report that begins are left; once more, where the toggles may differ
 first_last : (unsure : Bool) (size : ℕ) (report : List ℕ) (xs : List (List ℕ)) → xs ≡ packets_of size report ++ copies unsure (packets_of size report)
@@ -104,19 +104,15 @@ more_going s b calls packet rest due again e h =
     }
 
 pub filled_by : (reset : Bool) (s n : ReportState) (b : Bus1) (calls : List EpCall) (packet : List ℕ) → b.reset ≡ reset → n.protocol ≡ s.protocol → Link1 s b calls
-    → n.course ≡ Goes → (b.reset ≡ false → Going n (set_full b packet) calls) → Link1 n (unless_reset reset b (set_full b packet)) calls
+    → n.course ≡ Goes → (b.reset ≡ false → Going (core n) (set_full b packet) calls) → Link1 n (unless_reset reset b (set_full b packet)) calls
 unfolding set_full
-filled_by true s n b calls packet e a h c k = record { asked = a ∙ h.asked; fresh = h.fresh; current = λ r. absurd (true_false (sym e ∙ r)) }
-filled_by false s n b calls packet e a h c k =
-    let M : Course → Type 0 = λ x. Now1 x n (set_full b packet) calls in
-    record { asked = a ∙ h.asked; fresh = λ r. absurd (true_false (sym r ∙ e)); current = λ r. subst M (sym c) (k e) }
+filled_by reset s n b calls packet h1 h2 h3 h4 h5 = grind (arith, common_steps)
 
 pub slots_of_blank : (b : Bus1) → b ≡ blank true → b.slots ≡ []
 slots_of_blank b e = ap (λ (y : Bus1). y.slots) e
 
 pub one_room : (two : Bool) → 0 < room_of two
-one_room true = omega arith
-one_room false = omega arith
+one_room two = grind (arith, common_steps)
 
 -- the first packet of a report
 pub first_link : (s r n : ReportState) (steps : List Bus1) (b mid new : Bus1) (calls : List EpCall) (packet : List ℕ) (two : Bool) → s.course ≡ Begins
@@ -127,7 +123,7 @@ pub first_link : (s r n : ReportState) (steps : List Bus1) (b mid new : Bus1) (c
 unfolding set_full
 first_link s r n steps b mid new calls packet two c er en p g f h =
     let m = goes1 steps s b mid calls g h in
-    let N : Course → Type 0 = λ x. Now1 x s mid calls in
+    let N : Course → Type 0 = λ x. Now1 x (core s) mid calls in
     let start : ReportState = record s { rest = s.report; due = count_of s.size s.report; again = s.unsure; unsure = false; lost = false; old = false } in
     let M : ReportState → Type 0 = λ x. is_more x ≡ true in
     let more : is_more r ≡ true = subst M (sym er) (ap (λ x. x || s.unsure) (lt_suc _)) in
@@ -144,7 +140,7 @@ first_link s r n steps b mid new calls packet two c er en p g f h =
     let P : Bus1 → Type 0 = λ x. Link1 (record n { course = Goes; buffered = 1 }) x calls in
     subst P (sym (f (subst R (sym empty) (one_room two))))
     (subst L (sym same) (filled_by mid.reset s (record end { course = Goes; buffered = 1 }) mid calls packet refl refl m refl
-    (λ x. first_going s mid calls packet n.rest n.due n.again handed (subst N c (m.current x)))))
+    (λ x. first_going (core s) mid calls packet n.rest n.due n.again handed (subst N c (m.current x)))))
 
 -- another packet of it
 pub more_link : (s n : ReportState) (steps : List Bus1) (b mid new : Bus1) (calls : List EpCall) (packet : List ℕ) (two : Bool) → s.course ≡ Goes
@@ -154,7 +150,7 @@ pub more_link : (s n : ReportState) (steps : List Bus1) (b mid new : Bus1) (call
 unfolding set_full
 more_link s n steps b mid new calls packet two c en p room g f h =
     let m = goes1 steps s b mid calls g h in
-    let N : Course → Type 0 = λ x. Now1 x s mid calls in
+    let N : Course → Type 0 = λ x. Now1 x (core s) mid calls in
     let end : ReportState = record s { rest = n.rest; due = n.due; again = n.again } in
     let F : ReportState → Type 0 = λ x. to_hand s ≡ packet ∷ to_hand x in
     let L : ReportState → Type 0 = λ x. Link1 (record x { buffered = x.buffered + 1 }) (filled mid packet) calls in
@@ -166,48 +162,25 @@ more_link s n steps b mid new calls packet two c en p room g f h =
     let P : Bus1 → Type 0 = λ x. Link1 (record n { buffered = n.buffered + 1 }) x calls in
     subst P (sym (f fits))
     (subst L (sym en) (filled_by mid.reset s (record end { buffered = s.buffered + 1 }) mid calls packet refl refl m c
-    (λ x. more_going s mid calls packet n.rest n.due n.again (subst F en p) (subst N c (m.current x)))))
-
--- two packets more fill the buffers, or all are handed over
-pub room_most : (two : Bool) → room_of two ≤ 2
-room_most true = omega arith
-room_most false = omega arith
-
-pub held_first : (two : Bool) (n m : ReportState) → n.buffered ≡ 1 → (m ≡ n) × IsHeld (room_of two) n ⊎ (m.buffered ≡ n.buffered + 1) → IsHeld (room_of two) m
-held_first two n m e (inl x) = let P : ReportState → Type 0 = λ y. IsHeld (room_of two) y in subst P (sym x.0) x.1
-held_first two n m e (inr x) = let most = room_most two in inr (omega (arith, e, x, most))
-
-pub held_twice : (two : Bool) (s n m : ReportState) → (n ≡ s) × IsHeld (room_of two) s ⊎ (n.buffered ≡ s.buffered + 1)
-    → (IsHeld (room_of two) n → m ≡ n) → (m ≡ n) × IsHeld (room_of two) n ⊎ (m.buffered ≡ n.buffered + 1) → IsHeld (room_of two) m
-held_twice two s n m x k (inl y) = let P : ReportState → Type 0 = λ z. IsHeld (room_of two) z in subst P (sym y.0) y.1
-held_twice two s n m (inl x) k (inr y) =
-    let P : ReportState → Type 0 = λ z. IsHeld (room_of two) z in
-    let held : IsHeld (room_of two) n = subst P (sym x.0) x.1 in
-    subst P (sym (k held)) held
-held_twice two s n m (inr x) k (inr y) = let most = room_most two in inr (omega (arith, x, y, most))
+    (λ x. more_going (core s) mid calls packet n.rest n.due n.again (subst F en p) (subst N c (m.current x)))))
 
 -- nothing is withheld
-pub going_held : (may : Bool) (two : Bool) (s : ReportState) (b : Bus1) (calls : List EpCall) → Going s b calls → IsHeld (room_of two) s
+pub going_held : (may : Bool) (two : Bool) (s : ReportState) (b : Bus1) (calls : List EpCall) → Going (core s) b calls → IsHeld (room_of two) s
     → NothingWithheld may (room_of two) s b calls
-going_held may two s b calls g (inl n) =
-    let P : ℕ → Type 0 = λ x. nat_lt 0 x ≡ true in all_handed (subst P g.counted (g.busy n)) n
-going_held may two s b calls g (inr f) =
-    let counted = g.counted in
-    let some = one_room two in
-    all_full (lt_true (omega (arith, f, some, counted))) (omega (arith, f, counted))
+going_held may two s b calls h1 h2 = grind (arith, common_steps)
 
 pub goes_held : (may : Bool) (two : Bool) (s : ReportState) (b : Bus1) (calls : List EpCall) → s.course ≡ Goes → Link1 s b calls → IsHeld (room_of two) s
     → NothingWithheld may (room_of two) s b calls
 goes_held may two s b calls e h held = elim (bool_cases b.reset) [
   | inl r ↦ was_reset r
-  | inr r ↦ (let N : Course → Type 0 = λ x. Now1 x s b calls in going_held may two s b calls (subst N e (h.current r)) held)
+  | inr r ↦ (let N : Course → Type 0 = λ x. Now1 x (core s) b calls in going_held may two s b calls (subst N e (h.current r)) held)
 ]
 
 pub rests_none : (may : Bool) (room : ℕ) (s : ReportState) (b : Bus1) (before calls : List EpCall) → s.course ≡ Rests → Link1 s b calls → calls ≡ Polled None ∷ before
     → NothingWithheld may room s b calls
 rests_none may room s b before calls e h c = elim (bool_cases b.reset) [
   | inl r ↦ was_reset r
-  | inr r ↦ (let N : Course → Type 0 = λ x. Now1 x s b calls in has_none before (subst N e (h.current r)).free.empty c)
+  | inr r ↦ (let N : Course → Type 0 = λ x. Now1 x (core s) b calls in has_none before (subst N e (h.current r)).free.empty c)
 ]
 
 pub may_by : (is_ready : Bool) (left : ℕ) → is_ready ≡ true → (left == 0) ≡ true → may_send is_ready left ≡ true
@@ -217,14 +190,13 @@ pub may_unready : (is_ready : Bool) (left : ℕ) → is_ready ≡ false → may_
 may_unready is_ready left e = ap (λ x. x && (left == 0)) e
 
 pub may_unknown : (is_ready : Bool) (left : ℕ) → (left == 0) ≡ false → may_send is_ready left ≡ false
-may_unknown true left w = ap (λ x. true && x) w
-may_unknown false left w = refl
+may_unknown is_ready left h1 = grind (arith, common_steps)
 
 pub first_fits : (s : ReportState) (steps : List Bus1) (b mid : Bus1) (calls : List EpCall) (two : Bool) → s.course ≡ Begins → Goes1 steps b mid → Link1 s b calls
     → length mid.slots < room_of two
 first_fits s steps b mid calls two c g h =
     let m = goes1 steps s b mid calls g h in
-    let N : Course → Type 0 = λ x. Now1 x s mid calls in
+    let N : Course → Type 0 = λ x. Now1 x (core s) mid calls in
     let empty : mid.slots ≡ [] = elim (bool_cases mid.reset) [ inl x ↦ slots_of_blank mid (m.fresh x) | inr x ↦ (subst N c (m.current x)).free.empty ] in
     let R : List (List ℕ) → Type 0 = λ x. length x < room_of two in
     subst R (sym empty) (one_room two)
@@ -233,7 +205,7 @@ pub more_fits : (s : ReportState) (steps : List Bus1) (b mid : Bus1) (calls : Li
     → Link1 s b calls → length mid.slots < room_of two
 more_fits s steps b mid calls two c room g h =
     let m = goes1 steps s b mid calls g h in
-    let N : Course → Type 0 = λ x. Now1 x s mid calls in
+    let N : Course → Type 0 = λ x. Now1 x (core s) mid calls in
     let E : List (List ℕ) → Type 0 = λ x. length x < room_of two in
     elim (bool_cases mid.reset) [
       | inl x ↦ subst E (sym (slots_of_blank mid (m.fresh x))) (one_room two)

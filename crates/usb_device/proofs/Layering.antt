@@ -1,4 +1,6 @@
 -- What keeps a device with its layer and its buffers in step.
+use Rattle.std.proofs.lemmas.Grind.{common_steps}
+use Rattle.std.proofs.Common.{arith}
 use Rattle.std.proofs.Common.{◌≡◌, inl, inr, ℕ, Bool, true, false, List, [], ◌∷◌, refl, sym, ap, subst, ◌∙◌}
 use Rattle.usb_device.specs.declared.answer.Endpoint1.{Endpoint1}
 use Rattle.usb_device.specs.declared.answer.EpAnswer.TheVariants.{Ack, Nak, Packet, Stall}
@@ -10,23 +12,13 @@ use Rattle.usb_device.specs.Requests.{Lent}
 use Rattle.usb_device.specs.Steps.{session}
 use Rattle.usb_device.specs.Through.{calls_of}
 use Rattle.usb_device.specs.representation.Layered.{PolledOnce}
-use Rattle.usb_device.specs.Bus1.{Got, Bus1, agree, received, Happens1, takes, loses, host_begins, resets1, Goes1, reported, unless_reset, filled, given_up, anew, begun_if, with_host_anew, states_reported, no_polls}
+use Rattle.usb_device.specs.Bus1.{Bus1, Happens1, host_begins, Goes1, reported, unless_reset, filled, given_up, anew, begun_if, with_host_anew, no_polls}
 use Rattle.usb_device.specs.representation.Link1.{ReportState, Link1, InStep}
-use Rattle.usb_device.proofs.Carrying.{true_false}
 use Rattle.usb_device.proofs.Linked.{takes_as}
 use Rattle.usb_device.proofs.Reporting.{step1, goes1}
 
-received_states : (a : Bool) (packet : List ℕ) (got : List Got) → states_reported (received a packet got) ≡ states_reported got
-received_states true packet got = refl
-received_states false packet got = refl
-
 in_step1 : (states : List Endpoint1) (b next : Bus1) → Happens1 b next → InStep states b → InStep states next
-in_step1 states b next (takes packet rest i e) h =
-    let P : Bus1 → Type 0 = λ x. InStep states x in subst P (sym e) (λ r. received_states (agree b) packet b.got ∙ h r)
-in_step1 states b next (loses packet rest i e) h =
-    let P : Bus1 → Type 0 = λ x. InStep states x in subst P (sym e) (λ r. received_states (agree b) packet b.got ∙ h r)
-in_step1 states b next (host_begins o e) h = let P : Bus1 → Type 0 = λ x. InStep states x in subst P (sym e) h
-in_step1 states b next (resets1 e) h = let P : Bus1 → Type 0 = λ x. InStep states x in subst P (sym e) (λ r. absurd (true_false r))
+in_step1 states b next h1 h2 = grind (arith, common_steps)
 
 pub goes_in_step : (steps : List Bus1) (states : List Endpoint1) (b next : Bus1) → Goes1 steps b next → InStep states b → InStep states next
 goes_in_step [] states b next e h = let P : Bus1 → Type 0 = λ x. InStep states x in subst P (sym e) h
@@ -34,8 +26,7 @@ goes_in_step (mid ∷ rest) states b next g h = goes_in_step rest states mid nex
 
 unless_in_step : (reset : Bool) (states others : List Endpoint1) (b other : Bus1) → b.reset ≡ reset → InStep states b → (reset ≡ false → InStep others other)
     → InStep others (unless_reset reset b other)
-unless_in_step true states others b other e h k = λ r. absurd (true_false (sym e ∙ r))
-unless_in_step false states others b other e h k = k refl
+unless_in_step reset states others b other h1 h2 h3 = grind (arith, common_steps)
 
 pub filled_in_step : (steps : List Bus1) (states : List Endpoint1) (b mid new : Bus1) (packet : List ℕ) → Goes1 steps b mid → new ≡ filled mid packet
     → InStep states b → InStep states new
@@ -63,8 +54,7 @@ anew_in_step steps states state b mid new g e h =
     subst P (sym e) (unless_in_step mid.reset states (state ∷ states) mid _ refl m (λ f r. ap (λ x. state ∷ x) (m r)))
 
 begun_in_step : (opened : Bool) (states : List Endpoint1) (b : Bus1) → InStep states b → InStep states (begun_if opened b)
-begun_in_step true states b h = h
-begun_in_step false states b h = h
+begun_in_step opened states b h1 = grind (arith, common_steps)
 
 pub began_in_step : (steps : List Bus1) (states : List Endpoint1) (b mid new : Bus1) → Goes1 steps b mid → new ≡ begun_if mid.opened mid
     → InStep states b → InStep states new
@@ -81,8 +71,7 @@ began_link steps s b mid new calls g e h =
     let P : Bus1 → Type 0 = λ x. Link1 s x calls in subst P (sym e) (begun_link mid.opened s mid calls refl (goes1 steps s b mid calls g h))
 
 begun_host : (opened : Bool) (b : Bus1) → b.opened ≡ opened → (begun_if opened b).opened ≡ true → (begun_if opened b).host ≡ false
-begun_host true b o e = refl
-begun_host false b o e = absurd (true_false (sym e ∙ o))
+begun_host opened b h1 h2 = grind (arith, common_steps)
 
 pub began_host : (mid new : Bus1) → new ≡ begun_if mid.opened mid → new.opened ≡ true → new.host ≡ false
 began_host mid new e = let P : Bus1 → Type 0 = λ x. x.opened ≡ true → x.host ≡ false in subst P (sym e) (begun_host mid.opened mid refl)
@@ -102,8 +91,7 @@ wake_session lent past has_report answer = refl
 
 -- a poll is nothing to endpoint 0
 pub polled_once : (past later : List Event) → PolledOnce past later → no_polls (calls_of later) ≡ no_polls (calls_of past)
-polled_once past later (inl e) = ap (λ x. no_polls (calls_of x)) e
-polled_once past later (inr p) = ap (λ x. no_polls (calls_of x)) p.1
+polled_once past later h1 = grind (arith, common_steps)
 
 asked_same : (calls : List EpCall) → asked_of (no_polls calls) ≡ asked_of calls
 asked_same [] = refl

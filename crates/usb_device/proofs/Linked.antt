@@ -1,62 +1,27 @@
 -- What keeps the link between bus, session and transfer.
-use Rattle.std.proofs.Common.{◌≡◌, ℕ, Bool, true, false, ◌||◌, ◌&&◌, List, [], ◌∷◌, ◌++◌, Option, Some, None, refl, ap, sym, subst, ◌∙◌, inl, inr}
+use Rattle.std.proofs.lemmas.Grind.{common_steps}
+use Rattle.std.proofs.Common.{arith}
+use Rattle.std.proofs.Common.{◌≡◌, ℕ, Bool, true, false, ◌||◌, ◌&&◌, List, [], ◌∷◌, ◌++◌, Some, refl, ap, sym, subst, ◌∙◌, inl, inr}
 use Rattle.usb_device.specs.declared.answer.EpAnswer.{EpAnswer}
-use Rattle.usb_device.specs.declared.answer.EpAnswer.TheVariants.{Ack, Nak, Packet, Stall}
-use Rattle.usb_device.specs.Calls.{EpCall, SetUp, Out, In, Polled, BusReset}
-use Rattle.usb_device.specs.Bus.{Bus, Seen, SetupSent, OutTaken, InGot, WasStalled, WasReset, InMode, Naks, Sends, OutMode, NaksOut, Takes, nothing_met, Happens, sets_up, takes_in, loses_ack, brings_out, stalls, resets, Goes, is_pending, is_out, is_write, setup_of, write_of, has_ended, got, with_taken, with_ack_lost, with_out, with_stall, first_out}
+use Rattle.usb_device.specs.Calls.{EpCall, Out}
+use Rattle.usb_device.specs.Bus.{Bus, Seen, SetupSent, OutTaken, InGot, WasStalled, WasReset, Naks, Sends, NaksOut, Takes, nothing_met, Happens, sets_up, takes_in, loses_ack, brings_out, stalls, resets, Goes, is_pending, is_out, is_write, setup_of, write_of, has_ended, got, with_taken, with_ack_lost, with_out, with_stall, first_out}
 use Rattle.usb_device.specs.Confirmed.{asked_of, WasSent, TakesOnly, ConfirmedBefore, AllKept, three_writes, last_is_lost}
-use Rattle.usb_device.specs.Transfers.{TransferState, Idle, Refused, Over, Reads, ReadDue, Sent, Closing, Closed, Opening, Writes, Keeps, Asking, Due, Status, Done}
-use Rattle.usb_device.specs.representation.Link.{IsQuiet, IsClosed, ClosedIf, IsSame, ConfirmsIf, StageLink, Link}
+use Rattle.usb_device.specs.Transfers.{TransferState, Idle}
+use Rattle.usb_device.specs.representation.Link.{StageLink, Link}
 
 or_true : (x : Bool) → (x || true) ≡ false → ⊥
-or_true true e = cc
-or_true false e = cc
+or_true x h1 = grind (arith, common_steps)
 
 or_false : true ≡ false → ⊥
 or_false e = cc
 
--- a packet is in the buffer: it was not quiet, so that only the status stage is left
-status_confirms : (b : Bus) (calls : List EpCall) (has : Bool) (setup data_ : List ℕ) → b.input ≡ Sends [] has → setup_of b.seen ≡ asked_of calls
-    → ConfirmsIf b.input calls → IsSame b calls → setup_of b.seen ≡ Some setup → write_of b.seen ≡ Some data_ → ConfirmedBefore [] setup data_ calls
-status_confirms b calls has s d e u c same es ed =
-    let P : InMode → Type 0 = λ mode. ConfirmsIf mode calls in
-    (subst P e c) s d (sym u ∙ es) (same.2 ∙ sym same.1 ∙ ed)
-
-sends_confirms : (t : TransferState) (b : Bus) (calls : List EpCall) (has : Bool) (setup data_ : List ℕ) → b.input ≡ Sends [] has
-    → setup_of b.seen ≡ asked_of calls → StageLink t b calls → setup_of b.seen ≡ Some setup → write_of b.seen ≡ Some data_ → ConfirmedBefore [] setup data_ calls
-sends_confirms Idle b calls has s d e u g es ed = absurd (subst IsQuiet e g)
-sends_confirms Over b calls has s d e u g es ed = absurd (subst IsQuiet e g)
-sends_confirms Refused b calls has s d e u (inl g) es ed = absurd (subst IsQuiet e g)
-sends_confirms Refused b calls has s d e u (inr g) es ed = status_confirms b calls has s d e u g.0 g.1 es ed
-sends_confirms (Reads left) b calls has s d e u g es ed = absurd g
-sends_confirms (ReadDue left) b calls has s d e u g es ed = absurd g
-sends_confirms Sent b calls has s d e u g es ed = absurd g
-sends_confirms Closing b calls has s d e u g es ed = absurd g
-sends_confirms Closed b calls has s d e u g es ed = absurd g
-sends_confirms Asking b calls has s d e u g es ed = absurd g
-sends_confirms Opening b calls has s d e u g es ed = absurd (subst IsQuiet e g.0)
-sends_confirms Writes b calls has s d e u g es ed = absurd (subst IsQuiet e g.0)
-sends_confirms (Keeps packet) b calls has s d e u g es ed = absurd (subst IsQuiet e g.0)
-sends_confirms Due b calls has s d e u g es ed = absurd (subst IsQuiet e g.0)
-sends_confirms Status b calls has s d e u g es ed = status_confirms b calls has s d e u g.0 g.1 es ed
-sends_confirms Done b calls has s d e u g es ed = status_confirms b calls has s d e u g.0 g.1 es ed
-
 confirms_by : (pending : Bool) (t : TransferState) (b : Bus) (calls : List EpCall) (has : Bool) (setup data_ : List ℕ) → is_pending b.met ≡ pending → Link t b calls
     → b.input ≡ Sends [] has → setup_of b.seen ≡ Some setup → is_write setup ≡ true → write_of b.seen ≡ Some data_ → ConfirmedBefore [] setup data_ calls
-confirms_by true t b calls has s d p h e es ew ed = let f = h.fresh p in cc
-confirms_by false t b calls has s d p h e es ew ed =
-    let c = h.current p in sends_confirms t b calls has s d e c.setup (c.stage s es ew) es ed
+confirms_by pending t b calls has setup data_ h1 h2 h3 h4 h5 h6 = grind (arith, common_steps)
 
 -- more that the host met
 sent_more : (seen : Seen) (after : List Seen) (before : List EpCall) (call : EpCall) → TakesOnly after before call → TakesOnly (seen ∷ after) before call
-sent_more seen after before (Out packet Ack) t = λ s e o. inr (t s e o)
-sent_more seen after before (Out packet Nak) t = tt
-sent_more seen after before (Out packet (Packet bytes)) t = tt
-sent_more seen after before (Out packet Stall) t = tt
-sent_more seen after before (SetUp bytes) t = tt
-sent_more seen after before (In answer) t = tt
-sent_more seen after before (Polled answer) t = tt
-sent_more seen after before BusReset t = tt
+sent_more seen after before call h1 = grind (arith, common_steps)
 
 confirmed_more : (seen : Seen) (after : List Seen) (setup data_ : List ℕ) (calls : List EpCall) → ConfirmedBefore after setup data_ calls → ConfirmedBefore (seen ∷ after) setup data_ calls
 confirmed_more seen after setup data_ [] c = c
@@ -66,10 +31,7 @@ confirmed_more seen after setup data_ (call ∷ before) (inr c) = inr (sent_more
 -- data that are taken in the same transfer
 pub takes_as : (sent : List Seen) (packet : List ℕ) (answer : EpAnswer) (behind calls : List EpCall) → asked_of behind ≡ asked_of calls → TakesOnly sent calls (Out packet answer)
     → TakesOnly sent behind (Out packet answer)
-takes_as sent packet Ack behind calls q t = λ s e o. t s (sym q ∙ e) o
-takes_as sent packet Nak behind calls q t = tt
-takes_as sent packet (Packet bytes) behind calls q t = tt
-takes_as sent packet Stall behind calls q t = tt
+takes_as sent packet answer behind calls h1 h2 = grind (arith, common_steps)
 
 kept_more : (x : Seen) (seen : List Seen) (calls : List EpCall) → AllKept seen calls
     → ((setup data_ : List ℕ) → x ≡ InGot [] → setup_of seen ≡ Some setup → is_write setup ≡ true → write_of seen ≡ Some data_ → ConfirmedBefore [] setup data_ calls)
@@ -93,102 +55,20 @@ got_kept t b calls [] false h e =
     kept_more (InGot []) b.seen calls h.kept (λ s d n es ew ed. confirms_by (is_pending b.met) t b calls false s d refl h e es ew ed)
 
 setup_got : (packet : List ℕ) (has : Bool) (b : Bus) → setup_of (got packet has b.seen) ≡ setup_of b.seen
-setup_got packet true b = refl
-setup_got packet false b = refl
-
-write_got : (packet : List ℕ) (has : Bool) (b : Bus) → write_of (got packet has b.seen) ≡ write_of b.seen
-write_got packet true b = refl
-write_got packet false b = refl
+setup_got packet has b = grind (arith, common_steps)
 
 taken_stage : (t : TransferState) (b : Bus) (calls : List EpCall) (packet : List ℕ) (has : Bool) → b.input ≡ Sends packet has → StageLink t b calls → StageLink t (with_taken b packet has) calls
-taken_stage Idle b calls packet has e g = tt
-taken_stage Over b calls packet has e g = tt
-taken_stage Refused b calls packet has e g = inl tt
-taken_stage (Reads left) b calls packet has e g = absurd g
-taken_stage (ReadDue left) b calls packet has e g = absurd g
-taken_stage Sent b calls packet has e g = absurd g
-taken_stage Closing b calls packet has e g = absurd g
-taken_stage Closed b calls packet has e g = absurd g
-taken_stage Asking b calls packet has e g = absurd g
-taken_stage Opening b calls packet has e g = absurd (subst IsQuiet e g.0)
-taken_stage Writes b calls packet has e g = absurd (subst IsQuiet e g.0)
-taken_stage (Keeps kept) b calls packet has e g = absurd (subst IsQuiet e g.0)
-taken_stage Due b calls packet has e g = (tt, (g.1.0, write_got packet has b ∙ g.1.1, g.1.2))
-taken_stage Status b calls packet has e g = (tt, (g.1.0, write_got packet has b ∙ g.1.1, g.1.2))
-taken_stage Done b calls packet has e g = (tt, (g.1.0, write_got packet has b ∙ g.1.1, g.1.2))
-
-again : (packet : List ℕ) (has : Bool) (calls : List EpCall) → ConfirmsIf (Sends packet has) calls → ConfirmsIf (Sends packet true) calls
-again [] has calls g = g
-again (x ∷ xs) has calls g = tt
-
-lost_status : (b : Bus) (calls : List EpCall) (packet : List ℕ) (has : Bool) → b.input ≡ Sends packet has → ConfirmsIf b.input calls × IsSame b calls
-    → ConfirmsIf (Sends packet true) calls × IsSame (with_ack_lost b packet has) calls
-lost_status b calls packet has e g =
-    let P : InMode → Type 0 = λ mode. ConfirmsIf mode calls in
-    (again packet has calls (subst P e g.0), (g.1.0, write_got packet has b ∙ g.1.1, g.1.2))
+taken_stage t b calls packet has h1 h2 = grind (arith, common_steps)
 
 lost_stage : (t : TransferState) (b : Bus) (calls : List EpCall) (packet : List ℕ) (has : Bool) → b.input ≡ Sends packet has → StageLink t b calls
     → StageLink t (with_ack_lost b packet has) calls
-lost_stage Idle b calls packet has e g = absurd (subst IsQuiet e g)
-lost_stage Over b calls packet has e g = absurd (subst IsQuiet e g)
-lost_stage Refused b calls packet has e (inl g) = absurd (subst IsQuiet e g)
-lost_stage Refused b calls packet has e (inr g) = inr (lost_status b calls packet has e g)
-lost_stage (Reads left) b calls packet has e g = absurd g
-lost_stage (ReadDue left) b calls packet has e g = absurd g
-lost_stage Sent b calls packet has e g = absurd g
-lost_stage Closing b calls packet has e g = absurd g
-lost_stage Closed b calls packet has e g = absurd g
-lost_stage Asking b calls packet has e g = absurd g
-lost_stage Opening b calls packet has e g = absurd (subst IsQuiet e g.0)
-lost_stage Writes b calls packet has e g = absurd (subst IsQuiet e g.0)
-lost_stage (Keeps kept) b calls packet has e g = absurd (subst IsQuiet e g.0)
-lost_stage Due b calls packet has e g = absurd (subst IsQuiet e g.0)
-lost_stage Status b calls packet has e g = lost_status b calls packet has e g
-lost_stage Done b calls packet has e g = lost_status b calls packet has e g
-
--- the first OUT packet stays the first
-first_stays : (packet : List ℕ) (first : Option (List ℕ)) (data_ : List ℕ) → first ≡ Some data_ → first_out first packet ≡ Some data_
-first_stays packet (Some first) data_ e = e
-first_stays packet None data_ e = absurd (let x = e in cc)
-
-closed_none : (out : Option (List ℕ)) (mode : OutMode) → mode ≡ Takes → ClosedIf out mode → out ≡ None
-closed_none None mode e c = refl
-closed_none (Some packet) mode e c = absurd (subst IsClosed e c)
+lost_stage t b calls packet has h1 h2 = grind (arith, common_steps)
 
 out_stage : (t : TransferState) (b : Bus) (calls : List EpCall) (packet : List ℕ) → b.output ≡ Takes → StageLink t b calls → StageLink t (with_out b packet) calls
-out_stage Idle b calls packet e g = g
-out_stage Over b calls packet e g = g
-out_stage Refused b calls packet e (inl g) = inl g
-out_stage Refused b calls packet e (inr g) = inr (g.0, (g.1.0, first_stays packet (write_of b.seen) g.1.0 g.1.1, g.1.2))
-out_stage (Reads left) b calls packet e g = absurd g
-out_stage (ReadDue left) b calls packet e g = absurd g
-out_stage Sent b calls packet e g = absurd g
-out_stage Closing b calls packet e g = absurd g
-out_stage Closed b calls packet e g = absurd g
-out_stage Asking b calls packet e g = absurd g
-out_stage Opening b calls packet e g = absurd (subst IsClosed e g.1)
-out_stage Writes b calls packet e g = (g.0, ap (λ first. first_out first packet) (g.1 ∙ closed_none b.met.out b.output e g.2), tt, g.3, g.4)
-out_stage (Keeps kept) b calls packet e g = absurd (subst IsClosed e g.1)
-out_stage Due b calls packet e g = (g.0, (g.1.0, first_stays packet (write_of b.seen) g.1.0 g.1.1, g.1.2))
-out_stage Status b calls packet e g = (g.0, (g.1.0, first_stays packet (write_of b.seen) g.1.0 g.1.1, g.1.2))
-out_stage Done b calls packet e g = (g.0, (g.1.0, first_stays packet (write_of b.seen) g.1.0 g.1.1, g.1.2))
+out_stage t b calls packet h1 h2 = grind (arith, common_steps)
 
 stall_stage : (t : TransferState) (b : Bus) (calls : List EpCall) → StageLink t b calls → StageLink t (with_stall b) calls
-stall_stage Idle b calls g = g
-stall_stage Over b calls g = g
-stall_stage Refused b calls g = g
-stall_stage (Reads left) b calls g = g
-stall_stage (ReadDue left) b calls g = g
-stall_stage Sent b calls g = g
-stall_stage Closing b calls g = g
-stall_stage Closed b calls g = g
-stall_stage Asking b calls g = g
-stall_stage Opening b calls g = g
-stall_stage Writes b calls g = g
-stall_stage (Keeps kept) b calls g = g
-stall_stage Due b calls g = g
-stall_stage Status b calls g = g
-stall_stage Done b calls g = g
+stall_stage t b calls h1 = grind (arith, common_steps)
 
 -- one thing that happens on the bus
 step : (t : TransferState) (b next : Bus) (calls : List EpCall) → Happens b next → Link t b calls → Link t next calls
@@ -290,15 +170,10 @@ seen_confirmed t b calls after before setup data_ h = h.kept after before setup 
 
 -- the last of three
 out_by : (a b : Bool) → (a && b) ≡ true → a ≡ true
-out_by true b e = refl
-out_by false b e = e
+out_by a b h1 = grind (arith, common_steps)
 
 first_is : (setup one other : List ℕ) → is_out setup ≡ true → (other ≡ one → ⊥) → ConfirmedBefore [] setup one (last_is_lost setup one other) → ⊥
-first_is setup one other o n (inl c) = absurd (let e = c.0 in cc)
-first_is setup one other o n (inr (t, inl c)) = absurd (let e = c.0 in cc)
-first_is setup one other o n (inr (t, inr (u, inl c))) = n (let e : Some other ≡ Some one = c.2 in cc)
-first_is setup one other o n (inr (t, inr (u, inr (v, inl c)))) = absurd (let e = c.0 in cc)
-first_is setup one other o n (inr (t, inr (u, inr (v, inr (w, c))))) = w setup refl o
+first_is setup one other h1 h2 h3 = grind (arith, common_steps)
 
 pub last_counts : (t : TransferState) (b : Bus) (setup one other : List ℕ) → is_write setup ≡ true → (other ≡ one → ⊥) → b.seen ≡ three_writes setup one other
     → Link t b (last_is_lost setup one other) → ⊥

@@ -1,7 +1,8 @@
 -- What a guard keeps, call by call.
+use Rattle.std.proofs.lemmas.Grind.{common_steps}
 use Rattle.std.proofs.Common.{◌≡◌, ℕ, ◌+◌, ◌-◌, ◌==◌, ◌&&◌, ◌||◌, nat_lt, not, Bool, true, false, List, [], ◌∷◌, ◌++◌, Option, Some, refl, sym, ap, subst, ◌∙◌, append_assoc, arith}
 use Rattle.usb_device.specs.declared.answer.EpAnswer.{EpAnswer}
-use Rattle.usb_device.specs.declared.answer.EpAnswer.TheVariants.{Ack, Nak, Packet, Stall}
+use Rattle.usb_device.specs.declared.answer.EpAnswer.TheVariants.{Nak, Stall}
 use Rattle.usb_device.specs.declared.guard.Guard.{Guard}
 use Rattle.usb_device.specs.declared.guarded.Guarded.{Guarded}
 use Rattle.usb_device.specs.Calls.{EpCall, SetUp, Out, In, Polled, BusReset}
@@ -110,23 +111,16 @@ passage_is pace past packet guard k =
     ∙ ap (λ (x : Bool). passage_by (is_refused past || (is_locked past && is_command (calls_met past) packet)) (is_command (calls_met past) packet && x)) (still pace (scans_since past))
 
 refuses_by : (b w : Bool) → passage_by b w ≡ Refuses → b ≡ true
-refuses_by true w e = refl
-refuses_by false true e = cc
-refuses_by false false e = cc
+refuses_by b w h1 = grind (arith, common_steps)
 
 waits_by : (b w : Bool) → passage_by b w ≡ Waits → b ≡ false
-waits_by true w e = cc
-waits_by false true e = refl
-waits_by false false e = refl
+waits_by b w h1 = grind (arith, common_steps)
 
 passes_by : (b w : Bool) → passage_by b w ≡ Passes → b ≡ false
-passes_by true w e = cc
-passes_by false true e = refl
-passes_by false false e = refl
+passes_by b w h1 = grind (arith, common_steps)
 
 neither : (b c : Bool) → (b || c) ≡ false → (b || c) ≡ b
-neither true c e = cc
-neither false c e = e
+neither b c h1 = grind (arith, common_steps)
 
 pub on_out_refused : {E : Type 0} (refines : Relation E) (pace : ℕ) (past : List GuardCall) (packet : List ℕ) (guard next : Guard) (behind : E) → by guard packet ≡ Refuses → next ≡ record guard { refused = true }
     → Guards refines pace past guard behind → Guards refines pace (Met (Out packet Stall) ∷ past) next behind
@@ -155,15 +149,11 @@ on_out_waits refines pace past packet guard behind p g =
     }
 
 left_is : (command : Bool) (pace count : ℕ) → left_by command pace (pace - count) ≡ pace - zero_if command count
-left_is true pace count = omega arith
-left_is false pace count = refl
+left_is command pace count = grind (arith, common_steps)
 
 since_out : (past : List GuardCall) (packet : List ℕ) (answer : EpAnswer) → scans_since (Met (Out packet answer) ∷ past) ≡ zero_if (is_taken answer && is_command (calls_met past) packet) (scans_since past)
 unfolding scans_since
-since_out past packet Ack = refl
-since_out past packet Nak = refl
-since_out past packet (Packet bytes) = refl
-since_out past packet Stall = refl
+since_out past packet answer = grind (arith, common_steps)
 
 pub on_out : {E : Type 0} (refines : Relation E) (pace : ℕ) (past : List GuardCall) (packet : List ℕ) (answer : EpAnswer) (guard next : Guard) (behind new : E) → by guard packet ≡ Passes
     → next ≡ record guard { left = left_by (is_taken answer && (guard.feature && writes packet)) guard.pace guard.left }

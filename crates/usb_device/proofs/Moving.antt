@@ -1,12 +1,14 @@
 -- What each move of the endpoint makes of the link.
+use Rattle.std.proofs.lemmas.Grind.{common_steps}
+use Rattle.std.proofs.Common.{arith}
 use Rattle.std.proofs.Common.{◌≡◌, ℕ, Bool, true, false, ◌||◌, is_some, List, [], ◌∷◌, ◌++◌, Option, Some, None, refl, sym, subst, ◌∙◌, inl, inr}
 use Rattle.usb_device.specs.declared.answer.EpAnswer.{EpAnswer}
 use Rattle.usb_device.specs.declared.answer.EpAnswer.TheVariants.{Ack, Nak, Packet, Stall}
 use Rattle.usb_device.specs.Calls.{EpCall, SetUp, Out, In, BusReset, Polled}
-use Rattle.usb_device.specs.Bus.{Bus, Met, Seen, InGot, InMode, Naks, Sends, Stalls, OutMode, Takes, StallsOut, Goes, looked, is_pending, is_out, is_write, setup_of, unless_pending, with_input, with_output}
+use Rattle.usb_device.specs.Bus.{Bus, Met, Seen, InGot, InMode, Sends, Stalls, OutMode, Takes, StallsOut, Goes, looked, is_pending, is_out, is_write, setup_of, unless_pending, with_input, with_output}
 use Rattle.usb_device.specs.Bus1.{KeptUnless}
 use Rattle.usb_device.specs.Confirmed.{asked_of, TakesOnly, WasSent, AllKept}
-use Rattle.usb_device.specs.Transfers.{TransferState, Idle, Refused, Over, Reads, ReadDue, Sent, Closing, Closed, Opening, Writes, Keeps, Asking, Due, Status, Done}
+use Rattle.usb_device.specs.Transfers.{TransferState, Idle, Refused, Over, Reads, ReadDue, Sent, Closing, Closed, Opening, Writes, Keeps, Asking, Due, Status}
 use Rattle.usb_device.specs.representation.Link.{IsQuiet, IsClosed, ClosedIf, ConfirmsIf, StageLink, HasNoData, Link}
 use Rattle.usb_device.proofs.Linked.{goes, sent_since}
 
@@ -16,16 +18,7 @@ set_to b input output = record { seen = b.seen; input = input; output = output; 
 -- a command to the controller
 commanded_by : (pending : Bool) (t u : TransferState) (b : Bus) (input : InMode) (output : OutMode) (calls : List EpCall) → is_pending b.met ≡ pending → Link t b calls
     → (StageLink t b calls → StageLink u (set_to b input output) calls) → (HasNoData t → HasNoData u) → Link u (unless_pending pending b (set_to b input output)) calls
-commanded_by true t u b input output calls p h k n = record {
-  kept = h.kept;
-  fresh = h.fresh;
-  current = λ q. absurd (let r : true ≡ false = sym p ∙ q in cc);
-}
-commanded_by false t u b input output calls p h k n = record {
-  kept = h.kept;
-  fresh = λ q. absurd (let r : true ≡ false = sym q ∙ p in cc);
-  current = λ q. let c = h.current q in record { setup = c.setup; stage = λ s es ew. k (c.stage s es ew); none = λ s es eo ew. n (c.none s es eo ew) };
-}
+commanded_by pending t u b input output calls h1 h2 h3 h4 = grind (arith, common_steps)
 
 commanded : (t u : TransferState) (b : Bus) (input : InMode) (output : OutMode) (calls : List EpCall) → Link t b calls
     → (StageLink t b calls → StageLink u (set_to b input output) calls) → (HasNoData t → HasNoData u) → Link u (unless_pending (is_pending b.met) b (set_to b input output)) calls
@@ -62,17 +55,8 @@ takes_kept packet Nak b calls p h after before e = tt
 takes_kept packet (Packet bytes) b calls p h after before e = tt
 takes_kept packet Stall b calls p h after before e = tt
 
--- the packet of a read ends it
-closed_by : (w : Bool) (b : Bus) (calls : List EpCall) (setup : List ℕ) → is_pending b.met ≡ false → Link Closing b calls → asked_of calls ≡ Some setup → is_out setup ≡ true
-    → is_write setup ≡ w → ⊥
-closed_by true b calls setup p h a o w = let c = h.current p in c.stage setup (c.setup ∙ a) w
-closed_by false b calls setup p h a o w = let c = h.current p in c.none setup (c.setup ∙ a) o w
-
 takes_none : (packet : List ℕ) (answer : EpAnswer) (b : Bus) (calls : List EpCall) → is_pending b.met ≡ false → Link Closing b calls → TakesSince b.seen calls (Out packet answer)
-takes_none packet Ack b calls p h after before e = λ setup a o. absurd (closed_by (is_write setup) b calls setup p h a o refl)
-takes_none packet Nak b calls p h after before e = tt
-takes_none packet (Packet bytes) b calls p h after before e = tt
-takes_none packet Stall b calls p h after before e = tt
+takes_none packet answer b calls h1 h2 = grind (arith, common_steps)
 
 -- the controller is opened for the packet of a write
 pub opened : (steps : List Bus) (mid b new : Bus) (t : TransferState) (calls : List EpCall) → Goes steps b mid → new ≡ with_output mid Takes → t ≡ Opening → Link t b calls
@@ -101,39 +85,11 @@ owes_nothing _ = ⊥
 
 nothing_owed : (t u : TransferState) (b next : Bus) (calls later : List EpCall) → owes_nothing t → StageLink t b calls → StageLink u next later
 unfolding owes_nothing
-nothing_owed (Reads left) u b next calls later o s = absurd s
-nothing_owed (ReadDue left) u b next calls later o s = absurd s
-nothing_owed Sent u b next calls later o s = absurd s
-nothing_owed Closing u b next calls later o s = absurd s
-nothing_owed Closed u b next calls later o s = absurd s
-nothing_owed Asking u b next calls later o s = absurd o
-nothing_owed Idle u b next calls later o s = absurd o
-nothing_owed Over u b next calls later o s = absurd o
-nothing_owed Refused u b next calls later o s = absurd o
-nothing_owed Opening u b next calls later o s = absurd o
-nothing_owed Writes u b next calls later o s = absurd o
-nothing_owed (Keeps kept) u b next calls later o s = absurd o
-nothing_owed Due u b next calls later o s = absurd o
-nothing_owed Status u b next calls later o s = absurd o
-nothing_owed Done u b next calls later o s = absurd o
+nothing_owed t u b next calls later h1 h2 = grind (arith, common_steps)
 
 nothing_had : (t u : TransferState) → owes_nothing t → HasNoData t → HasNoData u
 unfolding owes_nothing
-nothing_had (Reads left) u o n = absurd n
-nothing_had (ReadDue left) u o n = absurd n
-nothing_had Sent u o n = absurd n
-nothing_had Closing u o n = absurd n
-nothing_had Closed u o n = absurd n
-nothing_had Asking u o n = absurd o
-nothing_had Idle u o n = absurd o
-nothing_had Over u o n = absurd o
-nothing_had Refused u o n = absurd o
-nothing_had Opening u o n = absurd o
-nothing_had Writes u o n = absurd o
-nothing_had (Keeps kept) u o n = absurd o
-nothing_had Due u o n = absurd o
-nothing_had Status u o n = absurd o
-nothing_had Done u o n = absurd o
+nothing_had t u h1 h2 = grind (arith, common_steps)
 
 -- the status stage of a request without data
 pub asking_due : (t : TransferState) (b : Bus) (calls : List EpCall) → t ≡ Asking → Link t b calls → Link Due b calls
@@ -184,13 +140,10 @@ offered_else b t packet answer calls i p h =
     answered (Keeps packet) Refused b (Out packet answer) calls refl (takes_kept packet answer b calls p k) k (λ s. inl s.0) (λ x. tt)
 
 quiet_confirms : (mode : InMode) (calls : List EpCall) → IsQuiet mode → ConfirmsIf mode calls
-quiet_confirms Naks calls q = tt
-quiet_confirms (Sends packet has) calls q = absurd q
-quiet_confirms Stalls calls q = tt
+quiet_confirms mode calls h1 = grind (arith, common_steps)
 
 sends_now : (packet : List ℕ) (calls : List EpCall) → ConfirmsIf (Sends packet false) (In (Packet (record { items = packet })) ∷ calls)
-sends_now [] calls = λ s d es ed. inl (refl, es, ed)
-sends_now (x ∷ xs) calls = tt
+sends_now packet calls = grind (arith, common_steps)
 
 -- the packet of the status stage is handed over
 pub handed : (steps : List Bus) (mid b new : Bus) (t : TransferState) (packet : List ℕ) (calls : List EpCall) → t ≡ Due → Link t b calls → Goes steps b mid
@@ -237,69 +190,9 @@ looked_on t u b calls h e f k n = record {
   current = λ q. let c = h.current (not_pending b.met e f) in record { setup = c.setup; stage = λ s es ew. k (c.stage s es ew); none = λ s es eo ew. n (c.none s es eo ew) };
 }
 
-looked_stage : (t : TransferState) (b : Bus) (calls : List EpCall) → (t ≡ Writes → b.met.out ≡ None) → StageLink t b calls → StageLink t (looked b) calls
-looked_stage Idle b calls n s = s
-looked_stage Over b calls n s = s
-looked_stage Refused b calls n s = s
-looked_stage (Reads left) b calls n s = s
-looked_stage (ReadDue left) b calls n s = s
-looked_stage Sent b calls n s = s
-looked_stage Closing b calls n s = s
-looked_stage Closed b calls n s = s
-looked_stage Asking b calls n s = s
-looked_stage Opening b calls n s = (s.0, s.1, s.2, s.3, refl, s.5)
-looked_stage Writes b calls n s = (s.0, s.1 ∙ n refl, tt, s.3, s.4)
-looked_stage (Keeps kept) b calls n s = s
-looked_stage Due b calls n s = s
-looked_stage Status b calls n s = s
-looked_stage Done b calls n s = s
-
-pub looked_same : (t : TransferState) (b : Bus) (calls : List EpCall) → Link t b calls → b.met.reset ≡ false → b.met.setup ≡ None → (t ≡ Writes → b.met.out ≡ None)
-    → Link t (looked b) calls
-looked_same t b calls h e f n = looked_on t t b calls h e f (looked_stage t b calls n) (λ x. x)
-
-pub looked_keeps : (t : TransferState) (b : Bus) (packet : List ℕ) (calls : List EpCall) → t ≡ Writes → Link t b calls → b.met.reset ≡ false → b.met.setup ≡ None → b.met.out ≡ Some packet
-    → Link (Keeps packet) (looked b) calls
-looked_keeps t b packet calls i h e f o =
-    let T : TransferState → Type 0 = λ x. Link x b calls in
-    let C : Option (List ℕ) → Type 0 = λ out. ClosedIf out b.output in
-    looked_on Writes (Keeps packet) b calls (subst T i h) e f (λ s. (s.0, subst C o s.2, s.1 ∙ o, s.3, s.4)) (λ x. x)
-
 -- to another stage while it is looked at what was met
 pub looked_free : (t u : TransferState) (b : Bus) (calls : List EpCall) → owes_nothing t → Link t b calls → b.met.reset ≡ false → b.met.setup ≡ None → Link u (looked b) calls
 looked_free t u b calls o h e f = looked_on t u b calls h e f (λ s. nothing_owed t u b (looked b) calls calls o s) (nothing_had t u o)
-
-pub is_behind : TransferState → Type 0
-is_behind Due = Unit {0}
-is_behind Status = Unit {0}
-is_behind Done = Unit {0}
-is_behind _ = ⊥
-
-behind_refused : (t : TransferState) (b : Bus) (calls : List EpCall) → is_behind t → StageLink t b calls → StageLink Refused (looked b) calls
-unfolding is_behind
-behind_refused Due b calls k s = inl s.0
-behind_refused Status b calls k s = inr (s.0, s.1)
-behind_refused Done b calls k s = inr (s.0, s.1)
-behind_refused Idle b calls k s = absurd k
-behind_refused Over b calls k s = absurd k
-behind_refused Refused b calls k s = absurd k
-behind_refused (Reads left) b calls k s = absurd k
-behind_refused (ReadDue left) b calls k s = absurd k
-behind_refused Sent b calls k s = absurd k
-behind_refused Closing b calls k s = absurd k
-behind_refused Closed b calls k s = absurd k
-behind_refused Asking b calls k s = absurd k
-behind_refused Opening b calls k s = absurd k
-behind_refused Writes b calls k s = absurd k
-behind_refused (Keeps kept) b calls k s = absurd k
-
--- a packet that is not due: the transfer will be stalled
-pub looked_refused : (t : TransferState) (b : Bus) (calls : List EpCall) → Link t b calls → b.met.reset ≡ false → b.met.setup ≡ None → is_behind t → Link Refused (looked b) calls
-looked_refused t b calls h e f k = looked_on t Refused b calls h e f (λ s. behind_refused t b calls k s) (λ x. tt)
-
--- the host has the empty packet
-pub looked_done : (t : TransferState) (b : Bus) (calls : List EpCall) → t ≡ Status → Link t b calls → b.met.reset ≡ false → b.met.setup ≡ None → Link Done (looked b) calls
-looked_done t b calls i h e f = let T : TransferState → Type 0 = λ x. Link x b calls in looked_on Status Done b calls (subst T i h) e f (λ s. s) (λ x. x)
 
 -- the OUT packet of a read ends it
 pub closes : (u : TransferState) (b : Bus) (packet : List ℕ) (answer : EpAnswer) (calls : List EpCall) → is_pending b.met ≡ false → Link Closing b calls → Link u b (Out packet answer ∷ calls)
@@ -307,8 +200,7 @@ closes u b packet answer calls p h = answered Closing u b (Out packet answer) ca
 
 -- a SETUP packet was met
 pending_setup : (x : Bool) (o : Option (List ℕ)) (setup : List ℕ) → o ≡ Some setup → (x || is_some o) ≡ true
-pending_setup true o s e = refl
-pending_setup false o s e = cc
+pending_setup x o setup h1 = grind (arith, common_steps)
 
 pub begins : (t u : TransferState) (b : Bus) (before calls : List EpCall) (setup : List ℕ) → Link t b before → b.met.setup ≡ Some setup → AllKept b.seen calls
     → (is_write setup ≡ true → u ≡ Opening) → (is_out setup ≡ true → is_write setup ≡ false → u ≡ Asking) → Link u (looked b) (SetUp setup ∷ calls)
@@ -332,9 +224,6 @@ begins t u b before calls setup h e k o a =
       };
     }
 
-was_reset : (t : TransferState) (b : Bus) (calls : List EpCall) → Link t b calls → AllKept b.seen (BusReset ∷ calls)
-was_reset t b calls h = grown b.seen BusReset calls (λ x y q. tt) h.kept
-
 -- the calls before a SETUP packet, with the reset that came before it
 abbrev pub behind_reset : Bool → List EpCall → List EpCall
 behind_reset true calls = BusReset ∷ calls
@@ -342,12 +231,10 @@ behind_reset false calls = calls
 
 pub stood : (P : List EpCall → Type 0) (reset : Bool) (setup : List ℕ) (calls : List EpCall) → (reset ≡ true → P (SetUp setup ∷ BusReset ∷ calls))
     → (reset ≡ false → P (SetUp setup ∷ calls)) → P (SetUp setup ∷ behind_reset reset calls)
-stood P true setup calls y n = y refl
-stood P false setup calls y n = n refl
+stood P reset setup calls h1 h2 = grind (arith, common_steps)
 
 pub kept_behind : (reset : Bool) (t : TransferState) (b : Bus) (calls : List EpCall) → Link t b calls → AllKept b.seen (behind_reset reset calls)
-kept_behind true t b calls h = was_reset t b calls h
-kept_behind false t b calls h = h.kept
+kept_behind reset t b calls h1 = grind (arith, common_steps)
 
 pub same_behind : (reset : Bool) (setup : List ℕ) (calls : List EpCall) → KeptUnless reset calls (SetUp setup ∷ behind_reset reset calls)
 same_behind true setup calls = (SetUp setup ∷ BusReset ∷ [], refl, refl)
@@ -367,30 +254,8 @@ resets t b calls h e n =
       };
     }
 
--- a poll is nothing to endpoint 0
-polled_confirms : (mode : InMode) (answer : Option (List ℕ)) (calls : List EpCall) → ConfirmsIf mode calls → ConfirmsIf mode (Polled answer ∷ calls)
-polled_confirms Naks answer calls c = tt
-polled_confirms Stalls answer calls c = tt
-polled_confirms (Sends [] has) answer calls c = λ s d es ed. inr (tt, c s d es ed)
-polled_confirms (Sends (x ∷ xs) has) answer calls c = tt
-
 polled_stage : (t : TransferState) (b : Bus) (answer : Option (List ℕ)) (calls : List EpCall) → StageLink t b calls → StageLink t b (Polled answer ∷ calls)
-polled_stage Refused b answer calls (inl s) = inl s
-polled_stage Refused b answer calls (inr s) = inr (polled_confirms b.input answer calls s.0, s.1)
-polled_stage Status b answer calls s = (polled_confirms b.input answer calls s.0, s.1)
-polled_stage Done b answer calls s = (polled_confirms b.input answer calls s.0, s.1)
-polled_stage Idle b answer calls s = s
-polled_stage Over b answer calls s = s
-polled_stage (Reads left) b answer calls s = s
-polled_stage (ReadDue left) b answer calls s = s
-polled_stage Sent b answer calls s = s
-polled_stage Closing b answer calls s = s
-polled_stage Closed b answer calls s = s
-polled_stage Opening b answer calls s = s
-polled_stage Writes b answer calls s = s
-polled_stage (Keeps kept) b answer calls s = s
-polled_stage Asking b answer calls s = s
-polled_stage Due b answer calls s = s
+polled_stage t b answer calls h1 = grind (arith, common_steps)
 
 pub polled_link : (t : TransferState) (b : Bus) (answer : Option (List ℕ)) (calls : List EpCall) → Link t b calls → Link t b (Polled answer ∷ calls)
 polled_link t b answer calls h = answered t t b (Polled answer) calls refl (λ x y q. tt) h (polled_stage t b answer calls) (λ x. x)

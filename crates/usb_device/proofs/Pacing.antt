@@ -1,23 +1,21 @@
 -- What a lock and a pace hold.
+use Rattle.std.proofs.lemmas.Grind.{common_steps}
 use Rattle.std.proofs.Common.{◌≡◌, ℕ, ◌+◌, ◌*◌, ◌≤◌, ◌<◌, ◌&&◌, ◌||◌, nat_lt, Bool, true, false, List, [], ◌∷◌, ◌++◌, Some, refl, sym, ap, subst, ◌∙◌, inl, inr, arith}
 use Rattle.usb_device.specs.declared.answer.EpAnswer.{EpAnswer}
 use Rattle.usb_device.specs.declared.answer.EpAnswer.TheVariants.{Ack, Nak, Packet, Stall}
 use Rattle.usb_device.specs.Calls.{EpCall, SetUp, Out, In, Polled, BusReset}
 use Rattle.usb_device.specs.Bus.{Seen}
 use Rattle.usb_device.specs.Confirmed.{asked_of, taken_of, confirmation, TakesOnly, ConfirmedBefore}
-use Rattle.usb_device.specs.Guarding.{GuardCall, Met, Locked, Scanned, calls_met, scans, is_feature, writes, is_command, one_if, commands_shown, commands_taken, is_locked, is_refused, zero_if, scans_since, Passage, Refuses, Waits, Passes, passage_by, passage, OutAnswer, StallIf, IsGuarded, AllGuarded, call_by, call_unless, passed, StaysLocked, IsStatusStage, DeviceCall, Serves, SetsLock, ScansRows, Else, OnlyMet, Brings, AllBring, locks, KeepsLock, rows_scanned}
+use Rattle.usb_device.specs.Guarding.{GuardCall, Met, Locked, Scanned, calls_met, scans, is_feature, writes, is_command, one_if, commands_shown, commands_taken, is_locked, is_refused, zero_if, scans_since, Passage, Refuses, Waits, Passes, passage_by, passage, OutAnswer, StallIf, IsGuarded, AllGuarded, call_by, call_unless, passed, StaysLocked, IsStatusStage, DeviceCall, Serves, SetsLock, ScansRows, Else, OnlyMet, AllBring, locks, KeepsLock, rows_scanned}
 use Rattle.usb_device.proofs.Linked.{takes_as}
 
 -- ---- what goes on to the device behind is of the same transfer
 
 asked_out : (p : Passage) (packet : List ℕ) (answer : EpAnswer) (calls : List EpCall) → asked_of (call_by p (Out packet answer) calls) ≡ asked_of calls
-asked_out Refuses packet answer calls = refl
-asked_out Waits packet answer calls = refl
-asked_out Passes packet answer calls = refl
+asked_out p packet answer calls = grind (arith, common_steps)
 
 asked_in : (b : Bool) (answer : EpAnswer) (calls : List EpCall) → asked_of (call_unless b (In answer) calls) ≡ asked_of calls
-asked_in true answer calls = refl
-asked_in false answer calls = refl
+asked_in b answer calls = grind (arith, common_steps)
 
 same_asked : (pace : ℕ) (past : List GuardCall) → asked_of (passed pace past) ≡ asked_of (calls_met past)
 unfolding passed
@@ -37,56 +35,36 @@ same_command pace past packet = ap (λ x. is_feature x && writes packet) (same_a
 -- ---- the lock
 
 locked_passage : (refused command : Bool) (waits : Bool) → command ≡ true → passage_by (refused || (true && command)) (command && waits) ≡ Refuses
-locked_passage true true waits e = refl
-locked_passage false true waits e = refl
-locked_passage refused false waits e = cc
+locked_passage refused command waits h1 = grind (arith, common_steps)
 
 pub refused_if : (pace : ℕ) (past : List GuardCall) (packet : List ℕ) → is_locked past ≡ true → is_command (calls_met past) packet ≡ true → passage pace past packet ≡ Refuses
 unfolding passage
 refused_if pace past packet l c = rw l (locked_passage (is_refused past) (is_command (calls_met past) packet) (nat_lt (scans_since past) pace) c)
 
 stall_of : (p : Passage) (answer : EpAnswer) → p ≡ Refuses → OutAnswer p answer → answer ≡ Stall
-stall_of Refuses answer e a = a
-stall_of Waits answer e a = cc
-stall_of Passes answer e a = cc
+stall_of p answer h1 h2 = grind (arith, common_steps)
 
 pub stalled : (pace : ℕ) (past : List GuardCall) (packet : List ℕ) (answer : EpAnswer) → AllGuarded pace (Met (Out packet answer) ∷ past) → is_locked past ≡ true → is_command (calls_met past) packet ≡ true
     → answer ≡ Stall
 stalled pace past packet answer all l c = stall_of (passage pace past packet) answer (refused_if pace past packet l c) all.0
 
-passes_no : Passes ≡ Refuses → ⊥
-passes_no e = cc
-
 other : (b : Bool) (count : ℕ) → (b ≡ true → ⊥) → one_if b count ≡ count
-other true count n = absurd (n refl)
-other false count n = refl
+other b count h1 = grind (arith, common_steps)
 
 -- of a packet that is a command, where it is refused, nothing is counted; of any other packet neither
 shown_out : (p : Passage) (packet : List ℕ) (answer : EpAnswer) (calls : List EpCall) → (is_command calls packet ≡ true → p ≡ Refuses)
     → commands_shown (call_by p (Out packet answer) calls) ≡ commands_shown calls
-shown_out Refuses packet answer calls r = refl
-shown_out Waits packet answer calls r = refl
-shown_out Passes packet answer calls r = other (is_command calls packet) (commands_shown calls) (λ e. passes_no (r e))
+shown_out p packet answer calls h1 = grind (arith, common_steps)
 
 shown_in : (b : Bool) (answer : EpAnswer) (calls : List EpCall) → commands_shown (call_unless b (In answer) calls) ≡ commands_shown calls
-shown_in true answer calls = refl
-shown_in false answer calls = refl
-
-taken_pass : (packet : List ℕ) (answer : EpAnswer) (calls : List EpCall) → (is_command calls packet ≡ true → ⊥) → commands_taken (Out packet answer ∷ calls) ≡ commands_taken calls
-taken_pass packet Ack calls n = other (is_command calls packet) (commands_taken calls) n
-taken_pass packet Nak calls n = refl
-taken_pass packet (Packet bytes) calls n = refl
-taken_pass packet Stall calls n = refl
+shown_in b answer calls = grind (arith, common_steps)
 
 taken_out : (p : Passage) (packet : List ℕ) (answer : EpAnswer) (calls : List EpCall) → (is_command calls packet ≡ true → p ≡ Refuses)
     → commands_taken (call_by p (Out packet answer) calls) ≡ commands_taken calls
-taken_out Refuses packet answer calls r = refl
-taken_out Waits packet answer calls r = refl
-taken_out Passes packet answer calls r = taken_pass packet answer calls (λ e. passes_no (r e))
+taken_out p packet answer calls h1 = grind (arith, common_steps)
 
 taken_in : (b : Bool) (answer : EpAnswer) (calls : List EpCall) → commands_taken (call_unless b (In answer) calls) ≡ commands_taken calls
-taken_in true answer calls = refl
-taken_in false answer calls = refl
+taken_in b answer calls = grind (arith, common_steps)
 
 still_locked : (since before : List GuardCall) → is_locked before ≡ true → StaysLocked since → is_locked (since ++ before) ≡ true
 still_locked [] before l s = l
@@ -134,10 +112,7 @@ unfolding is_command
 no_command past packet e = rw e refl
 
 neither_and : (r l : Bool) (c : Bool) → r ≡ false → c ≡ false → (r || (l && c)) ≡ false
-neither_and r l true a b = cc
-neither_and false true false a b = refl
-neither_and false false false a b = refl
-neither_and true l false a b = cc
+neither_and r l c h1 h2 = grind (arith, common_steps)
 
 pub not_refused : (past : List GuardCall) → is_feature (asked_of (calls_met past)) ≡ false → is_refused past ≡ false
 unfolding is_refused
@@ -158,8 +133,7 @@ goes_by pace past packet e =
     rw (neither_and (is_refused past) (is_locked past) (is_command (calls_met past) packet) r c, c) refl
 
 acked : (b w : Bool) → OutAnswer (passage_by b w) Ack → b ≡ false
-acked true w a = cc
-acked false w a = refl
+acked b w h1 = grind (arith, common_steps)
 
 taken_not_refused : (pace : ℕ) (past : List GuardCall) (packet : List ℕ) → IsGuarded pace past (Met (Out packet Ack)) → is_refused (Met (Out packet Ack) ∷ past) ≡ false
 unfolding is_refused passage
@@ -180,22 +154,10 @@ status pace (Scanned ∷ since) before packet all s = status pace since before p
 -- ---- what was confirmed
 
 data_out : (p : Passage) (packet : List ℕ) (answer : EpAnswer) (calls met : List EpCall) → OutAnswer p answer → taken_of calls ≡ taken_of met → taken_of (call_by p (Out packet answer) calls) ≡ taken_of (Out packet answer ∷ met)
-data_out Passes packet Ack calls met a e = refl
-data_out Passes packet Nak calls met a e = e
-data_out Passes packet (Packet bytes) calls met a e = e
-data_out Passes packet Stall calls met a e = e
-data_out Refuses packet Ack calls met a e = cc
-data_out Refuses packet Nak calls met a e = e
-data_out Refuses packet (Packet bytes) calls met a e = e
-data_out Refuses packet Stall calls met a e = e
-data_out Waits packet Ack calls met a e = cc
-data_out Waits packet Nak calls met a e = e
-data_out Waits packet (Packet bytes) calls met a e = e
-data_out Waits packet Stall calls met a e = e
+data_out p packet answer calls met h1 h2 = grind (arith, common_steps)
 
 data_in : (b : Bool) (answer : EpAnswer) (calls : List EpCall) → taken_of (call_unless b (In answer) calls) ≡ taken_of calls
-data_in true answer calls = refl
-data_in false answer calls = refl
+data_in b answer calls = grind (arith, common_steps)
 
 same_data : (pace : ℕ) (past : List GuardCall) → AllGuarded pace past → taken_of (passed pace past) ≡ taken_of (calls_met past)
 unfolding passed
@@ -210,19 +172,15 @@ same_data pace (Scanned ∷ past) all = same_data pace past all.1
 
 deeper_out : (p : Passage) (call : EpCall) (calls : List EpCall) (sent : List Seen) (setup data_ : List ℕ) → TakesOnly sent calls call → ConfirmedBefore sent setup data_ calls
     → ConfirmedBefore sent setup data_ (call_by p call calls)
-deeper_out Refuses call calls sent setup data_ t w = w
-deeper_out Waits call calls sent setup data_ t w = w
-deeper_out Passes call calls sent setup data_ t w = inr (t, w)
+deeper_out p call calls sent setup data_ h1 h2 = grind (arith, common_steps)
 
 deeper_in : (b : Bool) (answer : EpAnswer) (calls : List EpCall) (sent : List Seen) (setup data_ : List ℕ) → ConfirmedBefore sent setup data_ calls
     → ConfirmedBefore sent setup data_ (call_unless b (In answer) calls)
-deeper_in true answer calls sent setup data_ w = w
-deeper_in false answer calls sent setup data_ w = inr (tt, w)
+deeper_in b answer calls sent setup data_ h1 = grind (arith, common_steps)
 
 confirmed_in : (b : Bool) (answer : EpAnswer) (calls : List EpCall) (sent : List Seen) (setup data_ : List ℕ) → StallIf b answer → In answer ≡ confirmation → asked_of calls ≡ Some setup → taken_of calls ≡ Some data_
     → ConfirmedBefore sent setup data_ (call_unless b (In answer) calls)
-confirmed_in true answer calls sent setup data_ a e s d = absurd (let x : answer ≡ Stall = a in let y = e in cc)
-confirmed_in false answer calls sent setup data_ a e s d = inl (e, s, d)
+confirmed_in b answer calls sent setup data_ h1 h2 h3 h4 = grind (arith, common_steps)
 
 pub confirmed : (pace : ℕ) (past : List GuardCall) (sent : List Seen) (setup data_ : List ℕ) → AllGuarded pace past → ConfirmedBefore sent setup data_ (calls_met past)
     → ConfirmedBefore sent setup data_ (passed pace past)
@@ -252,8 +210,7 @@ data Counts (pace now since now_after since_after : ℕ) : Type 0 where
   counts : pace ≤ since → now_after ≡ now + 1 → since_after ≡ 0 → Counts pace now since now_after since_after
 
 count_if : (command : Bool) (pace now since : ℕ) → (command && nat_lt since pace) ≡ false → Counts pace now since (one_if command now) (zero_if command since)
-count_if false pace now since w = stays refl refl
-count_if true pace now since w = counts (grind (arith, w)) refl refl
+count_if command pace now since h1 = grind (arith, common_steps)
 
 goes_on : (p : Passage) (b w : Bool) → passage_by b w ≡ p → p ≡ Passes → w ≡ false
 goes_on p true w e q = cc
@@ -296,8 +253,7 @@ tally_by pace now since now_after since_after total (stays n s) h = rw (n, s) h
 tally_by pace now since now_after since_after total (counts p n s) h = rw (n, s) (more_by pace now since total h p)
 
 tally_in : (b : Bool) (answer : EpAnswer) (calls : List EpCall) (pace since total : ℕ) → commands_taken calls * pace + since ≤ total → commands_taken (call_unless b (In answer) calls) * pace + since ≤ total
-tally_in true answer calls pace since total h = h
-tally_in false answer calls pace since total h = h
+tally_in b answer calls pace since total h1 = grind (arith, common_steps)
 
 tally : (pace : ℕ) (past : List GuardCall) → AllGuarded pace past → commands_taken (passed pace past) * pace + scans_since past ≤ scans past
 unfolding passed scans_since
@@ -320,18 +276,13 @@ data AtMostOne (first now since total : ℕ) : Type 0 where
   one : now ≡ first + 1 → since ≤ total → AtMostOne first now since total
 
 at_most_by : (pace first now since now_after since_after total : ℕ) → total < pace → Counts pace now since now_after since_after → AtMostOne first now since total → AtMostOne first now_after since_after total
-at_most_by pace first now since now_after since_after total l (stays n s) (none e) = none (n ∙ e)
-at_most_by pace first now since now_after since_after total l (stays n s) (one e h) = one (n ∙ e) (rw s h)
-at_most_by pace first now since now_after since_after total l (counts p n s) (none e) = one (n ∙ ap (λ (x : ℕ). x + 1) e) (rw s (omega arith))
-at_most_by pace first now since now_after since_after total l (counts p n s) (one e h) = absurd (omega (arith, l, p, h))
+at_most_by pace first now since now_after since_after total h1 h2 h3 = grind (arith, common_steps)
 
 at_most_in : (b : Bool) (answer : EpAnswer) (calls : List EpCall) (first since total : ℕ) → AtMostOne first (commands_taken calls) since total → AtMostOne first (commands_taken (call_unless b (In answer) calls)) since total
-at_most_in true answer calls first since total h = h
-at_most_in false answer calls first since total h = h
+at_most_in b answer calls first since total h1 = grind (arith, common_steps)
 
 at_most_scan : (first now since total : ℕ) → AtMostOne first now since total → AtMostOne first now (since + 1) (total + 1)
-at_most_scan first now since total (none e) = none e
-at_most_scan first now since total (one e h) = one e (omega (arith, h))
+at_most_scan first now since total h1 = grind (arith, common_steps)
 
 at_most_one : (pace : ℕ) (since before : List GuardCall) → AllGuarded pace (since ++ before) → scans since < pace
     → AtMostOne (commands_taken (passed pace before)) (commands_taken (passed pace (since ++ before))) (scans_since (since ++ before)) (scans since)
@@ -348,8 +299,7 @@ at_most_one pace (Locked on ∷ since) before all l = at_most_one pace since bef
 at_most_one pace (Scanned ∷ since) before all l = at_most_scan _ _ _ _ (at_most_one pace since before all.1 (omega (arith, l)))
 
 no_more : (first now since total : ℕ) → AtMostOne first now since total → now ≤ first + 1
-no_more first now since total (none e) = rw e (omega arith)
-no_more first now since total (one e h) = rw e (omega arith)
+no_more first now since total h1 = grind (arith, common_steps)
 
 pub between : (pace : ℕ) (since before : List GuardCall) → AllGuarded pace (since ++ before) → scans since < pace → commands_taken (passed pace (since ++ before)) ≤ commands_taken (passed pace before) + 1
 between pace since before all l = no_more _ _ _ _ (at_most_one pace since before all l)

@@ -1,15 +1,10 @@
 -- What happens on the bus of a controller that a script plays.
+use Rattle.std.proofs.lemmas.Grind.{common_steps}
+use Rattle.std.proofs.Common.{arith}
 use Rattle.std.proofs.Common.{◌≡◌, ℕ, Bool, true, false, List, [], ◌∷◌, Some, None, refl, ap, ◌∙◌}
-use Rattle.usb_device.specs.declared.controller.Input.{Input}
-use Rattle.usb_device.specs.declared.controller.Input.TheVariants as Inputs
-use Rattle.usb_device.specs.Bus.{Bus, Seen, SetupSent, OutTaken, WasReset, InMode, Naks, Sends, NaksOut, Takes, got, mode_of, sets_up, takes_in, loses_ack, brings_out, resets}
-use Rattle.usb_device.specs.representation.Played0.{Moved0, mode_by, address_by}
+use Rattle.usb_device.specs.Bus.{Bus, Seen, SetupSent, OutTaken, WasReset, InMode, Naks, Sends, NaksOut, Takes, got, sets_up, takes_in, loses_ack, brings_out, resets}
+use Rattle.usb_device.specs.representation.Played0.{Moved0, address_by}
 use Rattle.usb_device.specs.Addresses.{StaysBy}
-
-pub fresh_mode : (answer : Input) → mode_by answer false ≡ mode_of answer
-fresh_mode Inputs.Nak = refl
-fresh_mode (Inputs.Packet packet) = refl
-fresh_mode Inputs.Stall = refl
 
 pub set_up : (b : Bus) (bytes : List ℕ) (seen : List Seen) → seen ≡ SetupSent bytes ∷ b.seen
     → Moved0 b (record { seen = seen; input = Naks; output = NaksOut; met = record { reset = b.met.reset; setup = Some bytes; out = b.met.out; taken = b.met.taken } })
@@ -54,19 +49,13 @@ brought b packet seen out o p e = (
 
 -- the address
 pub address_stays : (r q : Bool) (x y : ℕ) → q ≡ r → y ≡ x → StaysBy q (address_by r x) (address_by q y)
-address_stays r true x y e f = refl
-address_stays true false x y e f = absurd (let t : false ≡ true = e in cc)
-address_stays false false x y e f = f
+address_stays r q x y h1 h2 = grind (arith, common_steps)
 
 pub address_zero : (r q : Bool) (x y : ℕ) → q ≡ true → StaysBy q (address_by r x) (address_by q y)
-address_zero r true x y e = refl
-address_zero r false x y e = absurd (let t : false ≡ true = e in cc)
+address_zero r q x y h1 = grind (arith, common_steps)
 
 pub address_looked : (m q : Bool) (x y z : ℕ) → q ≡ false → StaysBy m x (address_by m y) → (m ≡ true → z ≡ 0) → (m ≡ false → z ≡ y) → StaysBy m x (address_by q z)
-address_looked m true x y z e s a b = absurd (let t : true ≡ false = e in cc)
-address_looked true false x y z e s a b = a refl
-address_looked false false x y z e s a b = b refl ∙ s
+address_looked m q x y z h1 h2 h3 h4 = grind (arith, common_steps)
 
 pub address_reported : (r : Bool) (a b : ℕ) → (r ≡ true → b ≡ 0) → (r ≡ false → b ≡ a) → StaysBy r a (address_by r b)
-address_reported true a b f g = refl
-address_reported false a b f g = g refl
+address_reported r a b h1 h2 = grind (arith, common_steps)

@@ -1,8 +1,9 @@
 -- The packets of a whole control read.
-use Rattle.std.proofs.Common.{◌≡◌, ◌≢◌, ◌⊎◌, ◌<◌, ◌≤◌, ◌+◌, ◌*◌, ◌||◌, nat_lt, not, ℕ, length, Bool, true, false, List, [], ◌∷◌, ◌++◌, Result, Ok, Err, inl, inr, refl, sym, ap, subst, ◌∙◌, append_assoc, length-append, arith}
+use Rattle.std.proofs.lemmas.Grind.{common_steps}
+use Rattle.std.proofs.Common.{◌≡◌, ◌≢◌, ◌⊎◌, ◌<◌, ◌≤◌, ◌+◌, ◌*◌, ℕ, length, true, false, List, [], ◌∷◌, ◌++◌, Result, Ok, Err, sym, ap, subst, ◌∙◌, append_assoc, length-append, arith}
 use Rattle.std.specs.Prelude.{IsOk, OnOk, MatchResult}
 use Rattle.usb_device.specs.declared.answer.EpAnswer.{EpAnswer}
-use Rattle.usb_device.specs.declared.answer.EpAnswer.TheVariants.{Ack, Nak, Packet, Stall}
+use Rattle.usb_device.specs.declared.answer.EpAnswer.TheVariants.{Ack, Stall}
 use Rattle.usb_device.specs.declared.whole_transfers.TransferError.{TransferError}
 use Rattle.usb_device.specs.declared.whole_transfers.TransferError.TheVariants.{Refused, Busy, Unfinished}
 use Rattle.usb_device.specs.Calls.{EpCall, SetUp, Out}
@@ -20,16 +21,10 @@ pub not_last : (asked : ℕ) (packet : List ℕ) (before : List (List ℕ)) → 
 not_last asked packet before l m = grind (arith, l, m)
 
 pub is_no_packet : (answer : EpAnswer) → (answer ≡ Ack) ⊎ (answer ≡ Stall) → IsNoPacket answer
-is_no_packet Ack e = tt
-is_no_packet Stall e = tt
-is_no_packet Nak (inl e) = cc
-is_no_packet Nak (inr e) = cc
-is_no_packet (Packet packet) (inl e) = cc
-is_no_packet (Packet packet) (inr e) = cc
+is_no_packet answer h1 = grind (arith, common_steps)
 
 pub on_ok : {A E P : Type 0} (r : Result A E) → IsOk r → OnOk r P → P
-on_ok (Ok x) i o = o
-on_ok (Err e) i o = cc
+on_ok r h1 h2 = grind (arith, common_steps)
 
 -- a packet more has room behind those before it
 pub extended : {A E : Type 0} (r : Result A E) (old packet new : List ℕ) (count : ℕ) → (length old + length packet ≤ 104 → IsOk r) → OnOk r (new ≡ old ++ packet) → length old ≤ 8 * count → count < 13 → length packet ≤ 8

@@ -1,12 +1,13 @@
 -- What keeps the link of endpoint 1.
-use Rattle.std.proofs.Common.{◌≡◌, ℕ, ◌+◌, Bool, true, false, not, List, [], ◌∷◌, ◌++◌, length, ◌-◌, ◌==◌, ◌&&◌, ◌||◌, ◌<◌, zero, Some, None, refl, sym, ap, subst, ◌∙◌, ◌⊎◌, inl, inr, nat_lt, arith, suc}
+use Rattle.std.proofs.lemmas.Grind.{common_steps}
+use Rattle.std.proofs.Common.{◌≡◌, ℕ, ◌+◌, Bool, true, false, not, List, [], ◌∷◌, ◌++◌, length, ◌-◌, ◌==◌, ◌&&◌, ◌||◌, Some, None, refl, sym, ap, subst, ◌∙◌, ◌⊎◌, inl, inr, nat_lt, arith, suc}
 use Rattle.usb_device.specs.declared.report_buffers.Course.{Course}
 use Rattle.usb_device.specs.declared.report_buffers.Course.TheVariants.{Rests, Begins, Goes}
 use Rattle.usb_device.specs.Calls.{EpCall, SetUp, Polled}
 use Rattle.usb_device.specs.Confirmed.{asked_of}
-use Rattle.usb_device.specs.Bus1.{Got, Sent, Reported, sent_of, is_old, newest, sets_protocol, Bus1, blank, same, agree, received, with_taken1, with_lost1, with_host_anew, Happens1, takes, loses, host_begins, resets1, Goes1, reported}
+use Rattle.usb_device.specs.Bus1.{Got, Sent, Reported, sent_of, is_old, newest, sets_protocol, Bus1, blank, agree, received, with_taken1, with_lost1, with_host_anew, Happens1, takes, loses, host_begins, resets1, Goes1, reported}
 use Rattle.usb_device.specs.Reports.{cut, HasNew, packets_of, with_new, Carries, GotInOrder, all, but_one}
-use Rattle.usb_device.specs.representation.Link1.{ReportState, is_more, is_over, to_hand, copies, new_of, ArePackets, Agrees, Free, Resting, Beginning, Going, Now1, Link1}
+use Rattle.usb_device.specs.representation.Link1.{core, ReportState, is_more, is_over, to_hand, copies, new_of, ArePackets, Agrees, Free, Resting, Beginning, Going, Now1, Link1}
 use Rattle.usb_device.proofs.Carrying.{true_false, newest_carries, received_has, received_begun, received_will, same_self, same_not}
 
 -- a packet is with the host
@@ -71,9 +72,7 @@ lost_step s b calls packet rest e h =
 
 -- the host begins anew
 pub host_agrees : (unsure lost : Bool) (b : Bus1) → b.opened ≡ true → Agrees unsure lost b → Agrees unsure lost (with_host_anew b)
-host_agrees true true b o a = a
-host_agrees true false b o a = a
-host_agrees false lost b o a = let S : Bool → Type 0 = λ x. same false x ≡ true in (subst S (sym (a.1 o)) refl, a.1)
+host_agrees unsure lost b h1 h2 = grind (arith, common_steps)
 
 pub host_free : (unsure lost : Bool) (b : Bus1) → b.opened ≡ true → Free unsure lost b → Free unsure lost (with_host_anew b)
 host_free unsure lost b o f = record { empty = f.empty; reported = f.reported; agrees = host_agrees unsure lost b o f.agrees }
@@ -98,21 +97,21 @@ step1 s b next calls (takes packet rest i e) h =
     subst P (sym e) (record {
       asked = h.asked;
       fresh = λ r. absurd (blank_slots b packet rest (h.fresh r) i);
-      current = λ r. (took_now s.course s b calls packet rest i (h.current r)).0;
+      current = λ r. (took_now s.course (core s) b calls packet rest i (h.current r)).0;
     })
 step1 s b next calls (loses packet rest i e) h =
     let P : Bus1 → Type 0 = λ x. Link1 s x calls in
     subst P (sym e) (record {
       asked = h.asked;
       fresh = λ r. absurd (blank_slots b packet rest (h.fresh r) i);
-      current = λ r. (took_now s.course s b calls packet rest i (h.current r)).1;
+      current = λ r. (took_now s.course (core s) b calls packet rest i (h.current r)).1;
     })
 step1 s b next calls (host_begins o e) h =
     let P : Bus1 → Type 0 = λ x. Link1 s x calls in
     subst P (sym e) (record {
       asked = h.asked;
       fresh = λ r. absurd (true_false (sym o ∙ ap (λ (y : Bus1). y.opened) (h.fresh r)));
-      current = λ r. host_now s.course s b calls o (h.current r);
+      current = λ r. host_now s.course (core s) b calls o (h.current r);
     })
 step1 s b next calls (resets1 e) h =
     let P : Bus1 → Type 0 = λ x. Link1 s x calls in
@@ -123,28 +122,8 @@ goes1 [] s b next calls e h = let P : Bus1 → Type 0 = λ x. Link1 s x calls in
 goes1 (mid ∷ rest) s b next calls g h = goes1 rest s mid next calls g.1 (step1 s b mid calls g.0 h)
 
 -- only the scans are others
-pub left_now : (course : Course) (s : ReportState) (left : ℕ) (b : Bus1) (calls : List EpCall) → Now1 course s b calls → Now1 course (record s { left = left }) b calls
-left_now Rests s left b calls h = record { free = h.free; carried = h.carried; marked = h.marked }
-left_now Begins s left b calls h = record { free = h.free; earlier = h.earlier; sent = h.sent; begun = h.begun; once = h.once; marked = h.marked }
-left_now Goes s left b calls h = record {
-  counted = h.counted;
-  closed = h.closed;
-  sure = h.sure;
-  earlier = h.earlier;
-  sent = h.sent;
-  old = h.old;
-  begun = h.begun;
-  has = h.has;
-  will = h.will;
-  ours = h.ours;
-  even = h.even;
-  busy = h.busy;
-  last = h.last;
-  fewer = h.fewer;
-}
-
 pub left_same : (s : ReportState) (left : ℕ) (b : Bus1) (calls : List EpCall) → Link1 s b calls → Link1 (record s { left = left }) b calls
-left_same s left b calls h = record { asked = h.asked; fresh = h.fresh; current = λ r. left_now s.course s left b calls (h.current r) }
+left_same s left b calls h = record { asked = h.asked; fresh = h.fresh; current = h.current }
 
 -- nothing of endpoint 0 changes it
 pub sent_now : (course : Course) (s : ReportState) (b : Bus1) (calls later : List EpCall) → sent_of later ≡ sent_of calls → Now1 course s b calls → Now1 course s b later
@@ -174,31 +153,10 @@ pub same_reports : (s : ReportState) (b : Bus1) (calls later : List EpCall) → 
 same_reports s b calls later h e a = record {
   asked = h.asked ∙ ap (λ x. sets_protocol x) (sym a);
   fresh = h.fresh;
-  current = λ r. sent_now s.course s b calls later e (h.current r);
+  current = λ r. sent_now s.course (core s) b calls later e (h.current r);
 }
 
 -- a SETUP packet
-protocol_now : (course : Course) (s : ReportState) (protocol : Bool) (b : Bus1) (calls : List EpCall) → Now1 course s b calls
-    → Now1 course (record s { protocol = protocol }) b calls
-protocol_now Rests s protocol b calls h = record { free = h.free; carried = h.carried; marked = h.marked }
-protocol_now Begins s protocol b calls h = record { free = h.free; earlier = h.earlier; sent = h.sent; begun = h.begun; once = h.once; marked = h.marked }
-protocol_now Goes s protocol b calls h = record {
-  counted = h.counted;
-  closed = h.closed;
-  sure = h.sure;
-  earlier = h.earlier;
-  sent = h.sent;
-  old = h.old;
-  begun = h.begun;
-  has = h.has;
-  will = h.will;
-  ours = h.ours;
-  even = h.even;
-  busy = h.busy;
-  last = h.last;
-  fewer = h.fewer;
-}
-
 pub set_up : (s : ReportState) (left : ℕ) (protocol : Bool) (packet : List ℕ) (b : Bus1) (calls : List EpCall) → protocol ≡ sets_protocol (Some packet)
     → Link1 s b calls → Link1 (record s { left = left; protocol = protocol }) b (SetUp packet ∷ calls)
 set_up s left protocol packet b calls e h =
@@ -206,17 +164,12 @@ set_up s left protocol packet b calls e h =
     record {
       asked = e;
       fresh = h.fresh;
-      current = λ r. protocol_now s.course n protocol b (SetUp packet ∷ calls) (sent_now s.course n b calls (SetUp packet ∷ calls) refl (left_now s.course s left b calls (h.current r)));
+      current = λ r. sent_now s.course (core s) b calls (SetUp packet ∷ calls) refl (h.current r);
     }
 
 -- the host is known to have begun anew
 pub sure_agrees : (unsure lost : Bool) (b : Bus1) → lost ≡ false → (b.opened ≡ true → b.host ≡ false) → Agrees unsure lost b → Agrees false false b
-sure_agrees true true b l k a = absurd (true_false l)
-sure_agrees true false b l k a =
-    let S : Bool → Type 0 = λ x. same x b.device ≡ true in
-    let T : Bool → Type 0 = λ x. same false x ≡ true in
-    (subst S (sym (k a.0)) (subst T (sym a.1) refl), λ _. a.1)
-sure_agrees false lost b l k a = a
+sure_agrees unsure lost b h1 h2 h3 = grind (arith, common_steps)
 
 pub sure_free : (unsure lost : Bool) (b : Bus1) → lost ≡ false → (b.opened ≡ true → b.host ≡ false) → Free unsure lost b → Free false lost b
 sure_free unsure lost b l k f = record { empty = f.empty; reported = f.reported; agrees = sure_agrees unsure lost b l k f.agrees }
@@ -251,11 +204,7 @@ sure_now Goes s left b calls l k h = record {
 
 pub sure_link : (s : ReportState) (left : ℕ) (b : Bus1) (calls : List EpCall) → s.lost ≡ false → (b.opened ≡ true → b.host ≡ false) → Link1 s b calls
     → Link1 (record s { unsure = false; left = left }) b calls
-sure_link s left b calls l k h = record { asked = h.asked; fresh = h.fresh; current = λ r. sure_now s.course s left b calls l k (h.current r) }
-
--- a poll
-pub polled_rest : (s : ReportState) (b : Bus1) (calls : List EpCall) → Resting s b calls → Resting s b (Polled None ∷ calls)
-polled_rest s b calls h = record { free = h.free; carried = h.carried; marked = h.marked }
+sure_link s left b calls l k h = record { asked = h.asked; fresh = h.fresh; current = λ r. sure_now s.course (core s) 0 b calls l k (h.current r) }
 
 pub polled_none : (s : ReportState) (b : Bus1) (calls : List EpCall) → s.course ≡ Rests → Link1 s b calls → Link1 s b (Polled None ∷ calls)
 polled_none s b calls e h = same_reports s b calls (Polled None ∷ calls) h refl refl
@@ -284,7 +233,7 @@ pub polled_some : (s : ReportState) (b : Bus1) (calls : List EpCall) (report : L
 polled_some s b calls report e h = record {
   asked = h.asked;
   fresh = h.fresh;
-  current = λ r. (let N : Course → Type 0 = λ x. Now1 x s b calls in begin_by s.unsure s b calls report refl (subst N e (h.current r)));
+  current = λ r. (let N : Course → Type 0 = λ x. Now1 x (core s) b calls in begin_by s.unsure (core s) b calls report refl (subst N e (h.current r)));
 }
 
 -- the host has all reports, or all but the newest
@@ -295,56 +244,20 @@ in_order_now Begins s b calls h =
 in_order_now Goes s b calls h = but_one s.report h.earlier h.sent h.begun (λ o. h.has (sym h.old ∙ o))
 
 pub in_order : (s : ReportState) (b : Bus1) (calls : List EpCall) → b.reset ≡ false → Link1 s b calls → GotInOrder s.size b.got (sent_of calls)
-in_order s b calls r h = in_order_now s.course s b calls (h.current r)
+in_order s b calls r h = in_order_now s.course (core s) b calls (h.current r)
 
 -- what was taken is reported
 pub reported_agrees : (unsure lost : Bool) (b : Bus1) → Agrees unsure lost b → Agrees unsure lost (reported b)
-reported_agrees true true b a = a
-reported_agrees true false b a = a
-reported_agrees false lost b a = a
-
-pub lt_true : {n : ℕ} → 0 < n → nat_lt 0 n ≡ true
-lt_true {n} e = grind (arith, e)
+reported_agrees unsure lost b h1 = grind (arith, common_steps)
 
 pub positive : (n : ℕ) → nat_lt 0 (n + 1) ≡ true
 positive n = grind arith
 
-pub reported_rest : (s : ReportState) (count : ℕ) (b : Bus1) (calls : List EpCall) → Resting s b calls → Resting (record s { buffered = count }) (reported b) calls
-reported_rest s count b calls h = record { free = record { empty = h.free.empty; reported = refl; agrees = reported_agrees s.unsure s.lost b h.free.agrees }; carried = h.carried; marked = h.marked }
-
-pub reported_begin : (s : ReportState) (count : ℕ) (b : Bus1) (calls : List EpCall) → Beginning s b calls → Beginning (record s { buffered = count }) (reported b) calls
-reported_begin s count b calls h = record {
-  free = record { empty = h.free.empty; reported = refl; agrees = reported_agrees s.unsure s.lost b h.free.agrees };
-  earlier = h.earlier;
-  sent = h.sent;
-  begun = h.begun;
-  once = h.once;
-  marked = h.marked;
-}
-
-pub taken_rests : (s : ReportState) (count : ℕ) (b : Bus1) (calls : List EpCall) → s.course ≡ Rests → Link1 s b calls
-    → Link1 (record s { buffered = count }) (reported b) calls
-taken_rests s count b calls e h =
-    let N : Course → Type 0 = λ x. Now1 x s b calls in
-    let M : Course → Type 0 = λ x. Now1 x (record s { buffered = count }) (reported b) calls in
-    record { asked = h.asked; fresh = λ x. ap (λ y. reported y) (h.fresh x); current = λ r. subst M (sym e) (reported_rest s count b calls (subst N e (h.current r))) }
-
-pub taken_begins : (s : ReportState) (count : ℕ) (b : Bus1) (calls : List EpCall) → s.course ≡ Begins → Link1 s b calls
-    → Link1 (record s { buffered = count }) (reported b) calls
-taken_begins s count b calls e h =
-    let N : Course → Type 0 = λ x. Now1 x s b calls in
-    let M : Course → Type 0 = λ x. Now1 x (record s { buffered = count }) (reported b) calls in
-    record { asked = h.asked; fresh = λ x. ap (λ y. reported y) (h.fresh x); current = λ r. subst M (sym e) (reported_begin s count b calls (subst N e (h.current r))) }
-
 pub lt_suc : (n : ℕ) → nat_lt 0 (suc n) ≡ true
 lt_suc n = grind arith
 
-pub suc_not : (n : ℕ) → (suc n == 0) ≡ false
-suc_not n = grind arith
-
 pub cut_some : (size due : ℕ) (rest : List ℕ) (more : List (List ℕ)) → nat_lt 0 due ≡ true → cut size due rest ++ more ≡ [] → ⊥
-cut_some size zero rest more d e = cc
-cut_some size (suc n) rest more d e = cc
+cut_some size due rest more h1 h2 = grind (arith, common_steps)
 
 pub append_some : {A : Type 0} (xs : List A) (y : A) (ys : List A) → xs ++ y ∷ ys ≡ [] → ⊥
 append_some [] y ys e = cc
@@ -360,40 +273,27 @@ hand_some_by false false size due rest report d m e = true_false (sym m)
 pub hand_some : (s : ReportState) → is_more s ≡ true → to_hand s ≡ [] → ⊥
 hand_some s m e = hand_some_by (nat_lt 0 s.due) s.again s.size s.due s.rest s.report refl m e
 
-pub cut_none : (size due : ℕ) (rest : List ℕ) → nat_lt 0 due ≡ false → cut size due rest ≡ []
-cut_none size zero rest d = refl
-cut_none size (suc n) rest d = absurd (true_false (sym (lt_suc n) ∙ d))
-
 pub hand_none_by : (more again : Bool) (size due : ℕ) (rest report : List ℕ) → nat_lt 0 due ≡ more → (more || again) ≡ false
     → cut size due rest ++ copies again (packets_of size report) ≡ []
-hand_none_by true again size due rest report d m = absurd (true_false m)
-hand_none_by false true size due rest report d m = absurd (true_false m)
-hand_none_by false false size due rest report d m = ap (λ (x : List (List ℕ)). x ++ []) (cut_none size due rest d)
+hand_none_by more again size due rest report h1 h2 = grind (arith, common_steps)
 
 pub hand_none : (s : ReportState) → is_more s ≡ false → to_hand s ≡ []
 hand_none s m = hand_none_by (nat_lt 0 s.due) s.again s.size s.due s.rest s.report refl m
 
 pub bool_cases : (x : Bool) → (x ≡ true) ⊎ (x ≡ false)
-bool_cases true = inl refl
-bool_cases false = inr refl
+bool_cases x = grind (arith, common_steps)
 
 pub busy_by : (more : Bool) (n : ℕ) → ((n == 0) && not more) ≡ false → (more ≡ true) ⊎ (nat_lt 0 n ≡ true)
-busy_by true n e = inl refl
-busy_by false zero e = cc
-busy_by false (suc n) e = inr (lt_suc n)
+busy_by more n h1 = grind (arith, common_steps)
 
 pub busy_of : (s : ReportState) (n : ℕ) → is_over (record s { buffered = n }) ≡ false → to_hand s ≡ [] → nat_lt 0 n ≡ true
 busy_of s n o e = elim (busy_by (is_more s) n o) [ inl m ↦ absurd (hand_some s m e) | inr b ↦ b ]
 
 pub over_none : (more : Bool) (n : ℕ) → ((n == 0) && not more) ≡ true → (more ≡ false) × (n ≡ 0)
-over_none true zero e = absurd (true_false (sym e))
-over_none true (suc n) e = absurd (true_false (sym e ∙ ap (λ x. x && false) (suc_not n)))
-over_none false zero e = (refl, refl)
-over_none false (suc n) e = absurd (true_false (sym e ∙ ap (λ x. x && true) (suc_not n)))
+over_none more n h1 = grind (arith, common_steps)
 
 pub no_length : {A : Type 0} (xs : List A) → length xs ≡ 0 → xs ≡ []
-no_length [] e = refl
-no_length (x ∷ xs) e = cc
+no_length xs h1 = grind (arith, common_steps)
 
 pub reported_goes : (s : ReportState) (n count : ℕ) (b : Bus1) (calls : List EpCall) → n ≡ s.buffered - count → b.taken ≡ count
     → is_over (record s { buffered = n }) ≡ false → Going s b calls → Going (record s { buffered = n }) (reported b) calls
@@ -419,17 +319,16 @@ reported_goes s n count b calls m t o g =
 pub taken_goes : (s : ReportState) (n count : ℕ) (b : Bus1) (calls : List EpCall) → n ≡ s.buffered - count → s.course ≡ Goes → b.taken ≡ count
     → is_over (record s { buffered = n }) ≡ false → Link1 s b calls → Link1 (record s { buffered = n }) (reported b) calls
 taken_goes s n count b calls m e t o h =
-    let N : Course → Type 0 = λ x. Now1 x s b calls in
-    let M : Course → Type 0 = λ x. Now1 x (record s { buffered = n }) (reported b) calls in
+    let N : Course → Type 0 = λ x. Now1 x (core s) b calls in
+    let M : Course → Type 0 = λ x. Now1 x (core (record s { buffered = n })) (reported b) calls in
     record {
       asked = h.asked;
       fresh = λ x. ap (λ y. reported y) (h.fresh x);
-      current = λ r. subst M (sym e) (reported_goes s n count b calls m t o (subst N e (h.current r)));
+      current = λ r. subst M (sym e) (reported_goes (core s) n count b calls m t o (subst N e (h.current r)));
     }
 
 pub new_none : (a : Bool) → new_of a [] ≡ []
-new_none true = refl
-new_none false = refl
+new_none a = grind (arith, common_steps)
 
 pub reported_over : (s : ReportState) (k count : ℕ) (b : Bus1) (calls : List EpCall) → k ≡ s.buffered - count → b.taken ≡ count
     → is_over (record s { buffered = k }) ≡ true → Going s b calls → Resting (record s { buffered = k; course = Rests }) (reported b) calls
@@ -453,5 +352,5 @@ reported_over s k count b calls m t o g =
 pub taken_over : (s : ReportState) (k count : ℕ) (b : Bus1) (calls : List EpCall) → k ≡ s.buffered - count → s.course ≡ Goes → b.taken ≡ count
     → is_over (record s { buffered = k }) ≡ true → Link1 s b calls → Link1 (record s { buffered = k; course = Rests }) (reported b) calls
 taken_over s k count b calls m e t o h =
-    let N : Course → Type 0 = λ x. Now1 x s b calls in
-    record { asked = h.asked; fresh = λ x. ap (λ y. reported y) (h.fresh x); current = λ r. reported_over s k count b calls m t o (subst N e (h.current r)) }
+    let N : Course → Type 0 = λ x. Now1 x (core s) b calls in
+    record { asked = h.asked; fresh = λ x. ap (λ y. reported y) (h.fresh x); current = λ r. reported_over (core s) k count b calls m t o (subst N e (h.current r)) }

@@ -1,10 +1,11 @@
 -- What endpoint 1 is, is what the history function says.
-use Rattle.std.proofs.Common.{◌≡◌, ℕ, ◌==◌, ◌&&◌, ◌||◌, not, Bool, true, false, List, [], ◌∷◌, Option, Some, None, refl, sym, ap, subst, ◌∙◌, if◌then◌else◌}
+use Rattle.std.proofs.lemmas.Grind.{common_steps}
+use Rattle.std.proofs.Common.{arith}
+use Rattle.std.proofs.Common.{◌≡◌, ℕ, ◌==◌, ◌&&◌, ◌||◌, not, Bool, false, List, [], ◌∷◌, Option, Some, None, refl, sym, ap, subst, ◌∙◌, if◌then◌else◌}
 use Rattle.usb_device.specs.declared.answer.EpAnswer.{EpAnswer}
-use Rattle.usb_device.specs.declared.answer.EpAnswer.TheVariants.{Ack, Nak, Packet, Stall}
 use Rattle.usb_device.specs.declared.answer.Endpoint1.{Endpoint1}
 use Rattle.usb_device.specs.declared.answer.Change.{Change}
-use Rattle.usb_device.specs.Requests.{Lent, Served, Reads, Sets, SetupFields, request_of, served, served_if, device_status, names}
+use Rattle.usb_device.specs.Requests.{Lent, Served, Reads, SetupFields, request_of, served, served_if, device_status, names}
 use Rattle.usb_device.specs.Events.{Event, SetupCame, OutCame, InAsked, PollAsked, ResetCame, SuspendCame, ResumeCame, WakeAsked}
 use Rattle.usb_device.specs.Steps.{Stage, Theirs, Sending, Status, Over, state_of, AllAnswered, InAnswer, after_in, after_out, first_stage, change_of, endpoint_then, renewed_then, wakeup_then, wakes}
 use Rattle.usb_device.specs.States.{setup_in, is_empty_packet, change_in, completed, endpoint_by, has_renewed, wakeup_by, is_suspended, has_woken, wakes_by}
@@ -15,34 +16,17 @@ By lent (Sending data_ asked sent) setup e = (bytes : List ℕ) → setup ≡ So
 By lent (Status change) setup e = (bytes : List ℕ) × (setup ≡ Some bytes) × (change_in (served lent e false (request_of bytes)) ≡ change)
 By lent Over setup e = Unit {0}
 
-same_setup : (lent : Lent) → (e : Endpoint1) (bytes other : List ℕ) (x : Option Change) → change_in (served lent e false (request_of bytes)) ≡ x → Some bytes ≡ Some other
-    → change_in (served lent e false (request_of other)) ≡ x
-same_setup lent e bytes other x h q =
-    let s : bytes ≡ other = cc in
-    let P : List ℕ → Type 0 = λ y. change_in (served lent e false (request_of y)) ≡ x in
-    subst P s h
-
-reads_by : (lent : Lent) → (zero_length : Bool) (e : Endpoint1) (setup data_ : List ℕ) (asked : ℕ) → change_in (served lent e false (request_of setup)) ≡ None
-    → By lent (if zero_length then Status None else Sending data_ asked 0) (Some setup) e
-unfolding By
-reads_by lent true e setup data_ asked h = (setup, refl, h)
-reads_by lent false e setup data_ asked h = λ other q. same_setup lent e setup other None h q
-
 begun_by : (lent : Lent) → (e : Endpoint1) (setup : List ℕ) (what : Option Served) (asked : ℕ) → change_in (served lent e false (request_of setup)) ≡ change_in what
     → By lent (first_stage what asked) (Some setup) e
 unfolding By
-begun_by lent e setup None asked h = λ other q. same_setup lent e setup other None h q
-begun_by lent e setup (Some (Reads data_)) asked h = reads_by lent (asked == 0) e setup data_ asked h
-begun_by lent e setup (Some (Sets change)) asked h = (setup, refl, h)
+begun_by lent e setup what asked h1 = grind (arith, common_steps)
 
 -- what a request sets does not depend on whether remote wakeup is enabled
 status_sets : (is_right : Bool) (data_ : List ℕ) → change_in (served_if is_right (Reads data_)) ≡ None
-status_sets true data_ = refl
-status_sets false data_ = refl
+status_sets is_right data_ = grind (arith, common_steps)
 
 row_sets : (is_row : Bool) (one other rest : Option Served) → change_in one ≡ change_in other → change_in (if is_row then one else rest) ≡ change_in (if is_row then other else rest)
-row_sets true one other rest h = h
-row_sets false one other rest h = refl
+row_sets is_row one other rest h1 = grind (arith, common_steps)
 
 same_change : (lent : Lent) (e : Endpoint1) (wakeup : Bool) (r : SetupFields) → change_in (served lent e false r) ≡ change_in (served lent e wakeup r)
 unfolding served
@@ -52,35 +36,17 @@ same_change lent e wakeup r =
 
 after_out_by : (lent : Lent) → (stage : Stage) (setup : Option (List ℕ)) (e : Endpoint1) → By lent stage setup e → By lent (after_out stage) setup e
 unfolding By
-after_out_by lent Theirs setup e b = b
-after_out_by lent (Sending data_ asked sent) setup e b = tt
-after_out_by lent (Status change) setup e b = tt
-after_out_by lent Over setup e b = tt
+after_out_by lent stage setup e h1 = grind (arith, common_steps)
 
 after_in_by : (lent : Lent) → (stage : Stage) (answer : EpAnswer) (setup : Option (List ℕ)) (e : Endpoint1) → By lent stage setup e
     → By lent (after_in stage answer) setup (endpoint_then e (change_of stage))
 unfolding By
-after_in_by lent Theirs answer setup e b = b
-after_in_by lent (Sending data_ asked sent) Ack setup e b = b
-after_in_by lent (Sending data_ asked sent) Nak setup e b = b
-after_in_by lent (Sending data_ asked sent) (Packet packet) setup e b = b
-after_in_by lent (Sending data_ asked sent) Stall setup e b = tt
-after_in_by lent (Status change) answer setup e b = tt
-after_in_by lent Over answer setup e b = tt
-
-nothing_completed : (lent : Lent) → (empty : Bool) (setup : Option (List ℕ)) (e : Endpoint1) → ((bytes : List ℕ) → setup ≡ Some bytes → change_in (served lent e false (request_of bytes)) ≡ None)
-    → completed lent empty setup e ≡ None
-nothing_completed lent true (Some bytes) e b = b bytes refl
-nothing_completed lent true None e b = refl
-nothing_completed lent false setup e b = refl
+after_in_by lent stage answer setup e h1 = grind (arith, common_steps)
 
 in_change : (lent : Lent) → (stage : Stage) (answer : EpAnswer) (setup : Option (List ℕ)) (e : Endpoint1) → By lent stage setup e → InAnswer stage answer
     → completed lent (is_empty_packet answer) setup e ≡ change_of stage
 unfolding By
-in_change lent Theirs answer setup e b i = nothing_completed lent (is_empty_packet answer) setup e b
-in_change lent (Sending data_ asked sent) answer setup e b i = nothing_completed lent (is_empty_packet answer) setup e b
-in_change lent (Status change) answer setup e b i = rw (i, b.1) b.2
-in_change lent Over answer setup e b i = rw i refl
+in_change lent stage answer setup e h1 h2 = grind (arith, common_steps)
 
 pub record Standing (lent : Lent) (past : List Event) : Type 0 where
   pub endpoint : (state_of lent past).endpoint ≡ endpoint_by lent past

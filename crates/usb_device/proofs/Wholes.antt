@@ -1,51 +1,29 @@
 -- The parts of a whole control write, put together.
-use Rattle.std.proofs.Common.{◌≡◌, ◌==◌, ℕ, ◌+◌, length, Bool, true, false, List, [], ◌∷◌, ◌++◌, Result, Ok, Err, refl, sym, ap, subst, ◌∙◌, append_assoc, arith}
+use Rattle.std.proofs.lemmas.Grind.{common_steps}
+use Rattle.std.proofs.Common.{◌≡◌, ◌==◌, ℕ, length, true, false, List, [], ◌∷◌, ◌++◌, Result, Ok, Err, refl, sym, ap, subst, ◌∙◌, append_assoc, arith}
 use Rattle.std.proofs.lemmas.List.{nil_from_length}
 use Rattle.std.specs.Prelude.{MatchResult}
 use Rattle.usb_device.specs.declared.answer.EpAnswer.{EpAnswer}
-use Rattle.usb_device.specs.declared.answer.EpAnswer.TheVariants.{Ack, Nak, Packet, Stall}
+use Rattle.usb_device.specs.declared.answer.EpAnswer.TheVariants.{Nak, Packet}
 use Rattle.usb_device.specs.declared.whole_transfers.TransferError.{TransferError}
 use Rattle.usb_device.specs.declared.whole_transfers.TransferError.TheVariants.{Refused, Busy, Unfinished}
 use Rattle.usb_device.specs.declared.whole_transfers.Status.{Status}
 use Rattle.usb_device.specs.declared.whole_transfers.Status.TheVariants.{Done, Waits, Refuses}
 use Rattle.usb_device.specs.Calls.{EpCall, SetUp, Out, In}
 use Rattle.usb_device.specs.Confirmed.{confirmation}
-use Rattle.usb_device.specs.Whole.{data_status_of, status_by, status_of, data_calls, put_off, begun, IsWritten, in_data, in_status, FailedBy}
+use Rattle.usb_device.specs.Whole.{data_status_of, status_of, data_calls, put_off, IsWritten, in_data, in_status, FailedBy}
 use Rattle.usb_device.specs.representation.Whole.{Gives, IsConfirmed, NotConfirmed}
 
-done_empty : (bytes : List ℕ) → status_by bytes ≡ Done → bytes ≡ []
-done_empty [] e = refl
-done_empty (x ∷ rest) e = cc
-
-waits_never : (bytes : List ℕ) → status_by bytes ≡ Waits → ⊥
-waits_never [] e = cc
-waits_never (x ∷ rest) e = cc
-
 pub done_is : (answer : EpAnswer) → status_of answer ≡ Done → answer ≡ Packet (record { items = [] })
-done_is Ack e = cc
-done_is Nak e = cc
-done_is (Packet packet) e = ap (λ xs. Packet (record { items = xs })) (done_empty packet.items e)
-done_is Stall e = cc
+done_is answer h1 = grind (arith, common_steps)
 
 pub waits_is : (answer : EpAnswer) → status_of answer ≡ Waits → answer ≡ Nak
-waits_is Ack e = cc
-waits_is Nak e = refl
-waits_is (Packet packet) e = absurd (waits_never packet.items e)
-waits_is Stall e = cc
+waits_is answer h1 = grind (arith, common_steps)
 
 -- ---- the data
 
-gives_by : (byte : ℕ) (bytes : List ℕ) (answer : EpAnswer) → Gives (data_status_of answer) (byte ∷ bytes) (Out (byte ∷ bytes) answer ∷ [])
-gives_by byte bytes Ack = refl
-gives_by byte bytes Nak = refl
-gives_by byte bytes (Packet packet) = (Packet packet, refl, refl)
-gives_by byte bytes Stall = (Stall, refl, refl)
-
 pub gives : (data_ : List ℕ) (answer : EpAnswer) (status : Status) → (length data_ == 0) ≡ false → status ≡ data_status_of answer → Gives status data_ (Out data_ answer ∷ [])
-gives [] answer status e s = cc
-gives (byte ∷ bytes) answer status e s =
-    let P : Status → Type 0 = λ x. Gives x (byte ∷ bytes) (Out (byte ∷ bytes) answer ∷ []) in
-    subst P (sym s) (gives_by byte bytes answer)
+gives data_ answer status h1 h2 = grind (arith, common_steps)
 
 pub gives_none : (data_ : List ℕ) → (length data_ == 0) ≡ true → Gives Done data_ []
 gives_none data_ e = let n : length data_ ≡ 0 = grind (arith, e) in rw (nil_from_length data_ n) refl

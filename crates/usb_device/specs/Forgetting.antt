@@ -1,6 +1,5 @@
 -- Trusted: what a device lets its host forget, by the calls of the bus, newest first.
 use Rattle.std.specs.Prelude.{◌≡◌, ℕ, ◌==◌, ◌&&◌, ◌||◌, not, Bool, true, false, List, [], ◌∷◌, length, replicate, slice_index, Option, Some, None}
-use Rattle.usb_device.specs.declared.answer.EpAnswer.{EpAnswer}
 use Rattle.usb_device.specs.Bus1.{sets_protocol}
 use Rattle.usb_device.specs.Calls.{EpCall, In, Polled, BusReset}
 use Rattle.usb_device.specs.Confirmed.{asked_of}

@@ -1,7 +1,7 @@
 -- Trusted: whole control writes, by the calls of the device, newest first.
 use Rattle.std.specs.Prelude.{ℕ, zero, suc, ◌≡◌, List, [], ◌∷◌, ◌++◌}
 use Rattle.usb_device.specs.declared.answer.EpAnswer.{EpAnswer}
-use Rattle.usb_device.specs.declared.answer.EpAnswer.TheVariants.{Ack, Nak, Packet, Stall}
+use Rattle.usb_device.specs.declared.answer.EpAnswer.TheVariants.{Ack, Nak, Packet}
 use Rattle.usb_device.specs.declared.whole_transfers.TransferError.{TransferError}
 use Rattle.usb_device.specs.declared.whole_transfers.TransferError.TheVariants.{Refused, Busy, Unfinished}
 use Rattle.usb_device.specs.declared.whole_transfers.Status.{Status}

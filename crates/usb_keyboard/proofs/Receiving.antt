@@ -47,12 +47,6 @@ nak_is Answers.Nak e = refl
 nak_is (Answers.Packet p) e = cc
 nak_is (Answers.Stall why) e = cc
 
-pub ack_is : (answer : Answer) → plain answer ≡ Plains.Ack → answer ≡ Answers.Ack
-ack_is Answers.Ack e = refl
-ack_is Answers.Nak e = cc
-ack_is (Answers.Packet p) e = cc
-ack_is (Answers.Stall why) e = cc
-
 abbrev bytes_in : Answer → List ℕ
 bytes_in (Answers.Packet packet) = packet.items
 bytes_in _ = []
@@ -141,9 +135,6 @@ enough sent last before asked l b w e =
       | inl short ↦ (let s : length last < 8 = is_below (length last) 8 short in omega (arith, whole, first, both, s))
       | inr all ↦ (let s : asked ≤ length (joined before ++ last) = not_below (length (joined before ++ last)) asked (not_true (nat_lt (length (joined before ++ last)) asked) all) in omega (arith, whole, s, l))
     ]
-
-length_asked : (asked : ℕ) (bytes : List ℕ) → length (take asked bytes) ≡ min asked (length bytes)
-length_asked asked bytes = length-take asked bytes
 
 read_whole : (bytes got : List ℕ) (asked : ℕ) (last : List ℕ) (before : List (List ℕ)) → joined before ≡ take (8 * length before) (take asked bytes)
     → joined (last ∷ before) ≡ take (8 * suc (length before)) (take asked bytes) → is_last asked last before ≡ true → got ≡ joined (last ∷ before) → got ≡ take asked bytes

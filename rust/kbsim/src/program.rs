@@ -6,11 +6,14 @@ mod files;
 mod items;
 mod json;
 mod parse;
+mod pieces;
 mod read;
+mod report_json;
 mod run;
 mod save;
 mod sentences;
 mod texts;
+mod usbmon;
 mod words;
 mod write;
 

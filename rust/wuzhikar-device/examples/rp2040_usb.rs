@@ -292,7 +292,12 @@ impl<R: Registers> Buffers for Rp2040Usb<'_, R> {
     }
 
     fn give_up(&mut self) {
-        self.unless(BUS_RESET, |registers| take_back(registers, &[IN_1]));
+        self.unless(BUS_RESET, |registers| {
+            // A halt stays, and has no packet.
+            if registers.read(CONTROL + 4 * IN_1) & STALL == 0 {
+                take_back(registers, &[IN_1]);
+            }
+        });
         self.take(IN_1);
     }
 

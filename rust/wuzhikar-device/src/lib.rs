@@ -81,7 +81,7 @@
 //! layer.setup([0xa1, 0x01, 1, 1, 0, 0, 23, 0], &mut Silent);
 //! assert_eq!(layer.in_packet(&mut Silent), (EpAnswer::Stall, None));
 //! ```
-#![cfg_attr(not(test), no_std)]
+#![cfg_attr(not(any(test, feature = "testing")), no_std)]
 #![forbid(unsafe_code)]
 
 mod control;
@@ -91,6 +91,8 @@ mod identity;
 mod keys;
 #[doc(hidden)]
 pub mod parts;
+#[cfg(any(test, feature = "testing"))]
+pub mod testing;
 #[cfg(test)]
 mod tests;
 

@@ -246,6 +246,7 @@ pub mod rattle;
 pub mod texts;
 pub mod usages;
 mod values;
+mod views;
 
 pub use crate::details::{
     Applications, Around, Collection, Detail, Details, Dimension, NoUnit, Placed, PlacedFields, ReportFacts, Reports,
@@ -253,7 +254,8 @@ pub use crate::details::{
 };
 pub use crate::names::{UsageName, page_name, usages_named};
 pub use crate::values::{
-    Asked, Changed, NoPhysical, NoValue, Physical, Reader, ReaderError, Reading, ReadingError, Setting, Target, Value, Within,
-    WriteError,
+    Asked, Changed, NoPhysical, NoValue, Physical, RawError, Reader, ReaderError, Reading, ReadingError, Setting, Target,
+    Value, Within, WriteError,
 };
+pub use crate::views::{Axis, Contact, Hat, Keys, Pad, Pen, Pointer, Touch};
 pub use wuzhikar_reader::{AllocError, Descriptor, Field, FieldUsages, Kind, Lenient, ParseError, ParseFault};

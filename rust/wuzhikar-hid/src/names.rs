@@ -1,6 +1,7 @@
 //! Names of usages (HID Usage Tables), from `usages.txt`. Written by hand: tested, not proved.
 
 use crate::usages::PAGES;
+use alloc::string::ToString;
 use core::cmp::Ordering;
 
 /// A page begins with `page`, its number in hex and its name; a line is a usage in hex and its name, and after a bar what
@@ -49,10 +50,22 @@ pub fn page_name(number: u16) -> Option<&'static str> {
 /// assert_eq!(page_name(0x0c), Some("Consumer"));
 /// ```
 pub fn usages_named(name: &str) -> impl Iterator<Item = u32> + '_ {
-    PAGES.iter().flat_map(move |(number, begin, end)| {
+    let named = PAGES.iter().flat_map(move |(number, begin, end)| {
         let lines = TABLE.get(*begin..*end).unwrap_or("").lines().skip(1);
         lines.filter_map(move |line| numbered(line, name)).map(move |low| u32::from(*number) << 16 | u32::from(low))
-    })
+    });
+    named.chain(unnamed(name))
+}
+
+/// The usage without a known name that is written as its page and its number.
+fn unnamed(name: &str) -> Option<u32> {
+    let hex = |word: &str| u16::from_str_radix(word.strip_suffix('h').or(word.strip_suffix('H'))?, 16).ok();
+    let (page, low) = name.rsplit_once(' ')?;
+    let is_named =
+        |(number, _, _): &&(u16, usize, usize)| page_name(*number).is_some_and(|name| name.eq_ignore_ascii_case(page));
+    let page = hex(page).or_else(|| PAGES.iter().find(is_named).map(|(number, _, _)| *number))?;
+    let usage = u32::from(page) << 16 | u32::from(hex(low)?);
+    UsageName(usage).to_string().eq_ignore_ascii_case(name).then_some(usage)
 }
 
 /// The number of the usage of a line, if it has this name.
@@ -167,16 +180,19 @@ mod tests {
         assert_eq!((sport::N1_IRON, usages::fido_alliance::PAGE, button::PAGE), (0x0004_0051, 0xf1d0, 9));
     }
 
-    /// Each usage is among those that have its name, but for one that is told as a page and a number.
+    /// Each usage is among those that have its name, also one that is told as a page and a number.
     #[test]
     fn usages_have_their_names() {
-        for usage in table().into_keys().chain([0x0009_0001, 0x0009_0400, 0x0009_ffff]) {
+        let others = [0x0001_009f, 0x0009_0000, 0x0009_0001, 0x0009_0400, 0x0009_ffff, 0x000c_0000, 0xff00_0001, 0x1234_ffff];
+        for usage in table().into_keys().chain(others) {
             let name = UsageName(usage).to_string();
             for name in [name.to_uppercase(), name] {
                 assert!(usages_named(&name).any(|other| other == usage), "{name}");
             }
         }
-        for none in ["", " ", "Button", "Button 0", "Button 03", "Button +3", "Button 65536", "No such usage", "page", "| "] {
+        let numbers = ["FF00h 1h", "FF00 01h", "FF00h +1h", "FF00h 10000h", "Generic Desktop 30h", "0001h 9Fh", "FF00h  01h"];
+        let none = ["", " ", "Button", "Button 0", "Button 03", "Button +3", "Button 65536", "No such usage", "page", "| "];
+        for none in none.into_iter().chain(numbers) {
             assert_eq!(usages_named(none).count(), 0, "{none}");
         }
         assert_eq!(usages_named("A").collect::<Vec<_>>(), [0x0007_0004]);

@@ -68,6 +68,13 @@ pub struct Fault {
     pub why: Why,
 }
 
+impl Fault {
+    /// The same fault of a text that has so many bytes more in front.
+    fn behind(self, mark: usize) -> Fault {
+        Fault { at: self.at + mark, ..self }
+    }
+}
+
 /// What is wrong in a text.
 #[derive(Clone, Copy, Debug, PartialEq, Eq)]
 pub enum Why {
@@ -107,8 +114,40 @@ pub enum Why {
     Second,
     /// No descriptor in the text.
     NoDescriptor,
-    /// The text says bytes in two forms: hex digits, and lines of `hexdump`.
-    Ambiguous,
+    /// The text says other bytes in the second of these forms.
+    Ambiguous(Form, Form),
+    /// The text is in UTF-16.
+    Utf16,
+}
+
+/// What editors put in front of a text to say how it is written.
+#[derive(Clone, Copy, Debug, PartialEq, Eq)]
+pub enum Mark {
+    /// The mark of UTF-8, three bytes.
+    Utf8,
+    /// The mark of UTF-16, or each second byte of a text that is else ASCII is 0.
+    Utf16,
+}
+
+impl Mark {
+    /// Returns the mark that a text begins with; `None` if it has none.
+    ///
+    /// ```
+    /// use wuzhikar_hid::texts::Mark;
+    ///
+    /// assert_eq!(Mark::of("\u{feff}05 01".as_bytes()), Some(Mark::Utf8));
+    /// assert_eq!(Mark::of(b"0\x005\x00\n\x00"), Some(Mark::Utf16));
+    /// ```
+    pub fn of(text: &[u8]) -> Option<Mark> {
+        let is_text = |byte: &u8| matches!(byte, b' '..=b'~') || is_blank(*byte);
+        let is_wide = |low: usize| text.chunks(2).all(|pair| pair.len() == 2 && is_text(&pair[low]) && pair[1 - low] == 0);
+        match text {
+            [0xEF, 0xBB, 0xBF, ..] => Some(Mark::Utf8),
+            [0xFF, 0xFE, ..] | [0xFE, 0xFF, ..] => Some(Mark::Utf16),
+            [_, _, _, _, ..] if is_wide(0) || is_wide(1) => Some(Mark::Utf16),
+            _ => None,
+        }
+    }
 }
 
 impl Form {
@@ -152,12 +191,19 @@ impl Form {
         matches!(self, Form::UsbhidDump | Form::HidRecorder)
     }
 
-    /// Reads the bytes of the descriptor that a text says in this form.
+    /// Reads the bytes of the descriptor that a text says in this form. A mark of UTF-8 before it is passed over, but in hex and
+    /// in bytes.
     ///
     /// # Errors
     ///
     /// The first fault of the text.
     pub fn read(self, text: &[u8]) -> Result<Vec<u8>, Fault> {
+        let mark = if matches!(self, Form::Hex | Form::Bytes) { 0 } else { mark_len(text)? };
+        self.said(&text[mark..]).map_err(|fault| fault.behind(mark))
+    }
+
+    /// The bytes of a text without a mark.
+    fn said(self, text: &[u8]) -> Result<Vec<u8>, Fault> {
         match self {
             Form::Hex => digits(text),
             Form::C => arrays::read(text, Language::C),
@@ -175,26 +221,34 @@ impl Form {
 
 /// Finds the form of a text, and reads the bytes that it says.
 ///
-/// A mark of a tool decides before all else. Then a text is hex digits if it is nothing else than pairs of them, an array if it
-/// reads as one, and last loose numbers. A text with control characters, or which is no UTF-8, is the bytes themselves.
+/// A mark of UTF-8 is passed over, and a text in UTF-16 refused. A text with control characters, or which is no UTF-8, is the bytes
+/// themselves. The mark of a tool decides before all else. Then a text is hex digits if it is nothing else than pairs of them, and
+/// else in the first form of arrays that takes it, or last loose numbers.
 ///
 /// # Errors
 ///
-/// The form that the text looks most like, and its first fault there.
+/// The form that the text looks most like, and its first fault there; `Ambiguous` for other bytes in another form of numbers.
 pub fn taken(text: &[u8]) -> Result<(Form, Vec<u8>), (Form, Fault)> {
-    let in_form = |form: Form| form.read(text).map(|bytes| (form, bytes)).map_err(|fault| (form, fault));
-    let has_controls = text.iter().any(|byte| byte.is_ascii_control() && !is_blank(*byte));
-    if has_controls || core::str::from_utf8(text).is_err() {
-        return in_form(Form::Bytes);
+    let mark = mark_len(text).map_err(|fault| (Form::Bytes, fault))?;
+    let has_controls = || text.iter().any(|byte| byte.is_ascii_control() && !is_blank(*byte));
+    if mark == 0 && (has_controls() || core::str::from_utf8(text).is_err()) {
+        return Ok((Form::Bytes, text.to_vec()));
     }
-    if let Some(form) = marked(text) {
-        return in_form(form);
+    let text = &text[mark..];
+    let told = match marked(text) {
+        Some(form) => form.read(text).map(|bytes| (form, bytes)).map_err(|fault| (form, fault)),
+        None => numbers(text),
+    };
+    told.map_err(|(form, fault)| (form, fault.behind(mark)))
+}
+
+/// The length of the mark that stands before a text.
+fn mark_len(text: &[u8]) -> Result<usize, Fault> {
+    match Mark::of(text) {
+        Some(Mark::Utf16) => Err(Fault { at: 0, why: Why::Utf16 }),
+        Some(Mark::Utf8) => Ok(3),
+        None => Ok(0),
     }
-    if !text.is_ascii() {
-        let array = [Form::C, Form::Rust].into_iter().find_map(|form| in_form(form).ok());
-        return array.filter(|_| text.contains(&b'{') || text.contains(&b'[')).map_or_else(|| in_form(Form::Bytes), Ok);
-    }
-    numbers(text)
 }
 
 /// Hex digits, an array or loose numbers.
@@ -202,16 +256,24 @@ fn numbers(text: &[u8]) -> Result<(Form, Vec<u8>), (Form, Fault)> {
     if dumps::is_of_words(text) {
         return Err((Form::Hexdump, Fault { at: 0, why: Why::Words }));
     }
+    let ambiguous = |form, other| Err((form, Fault { at: 0, why: Why::Ambiguous(form, other) }));
     let hex = match digits(text) {
-        Ok(_) if dumps::is_numbered(text) => return Err((Form::Hexdump, Fault { at: 0, why: Why::Ambiguous })),
+        Ok(_) if dumps::is_numbered(text) => return ambiguous(Form::Hex, Form::Hexdump),
         Ok(bytes) => return Ok((Form::Hex, bytes)),
         Err(fault) => fault,
     };
-    let has = |marks: &[u8]| text.iter().any(|byte| marks.contains(byte));
-    let likely = arrays::likely(text);
-    let forms = [(Form::C, has(b",{xX")), (Form::Rust, likely == Some(Form::Rust)), (Form::Loose, true)];
-    let read = forms.into_iter().filter(|(_, is_tried)| *is_tried).find_map(|(form, _)| Some((form, form.read(text).ok()?)));
-    read.ok_or_else(|| likely.and_then(|form| Some((form, form.read(text).err()?))).unwrap_or((Form::Hex, hex)))
+    // (A number alone is no array of C.)
+    let is_listed = text.iter().any(|byte| b",{xX".contains(byte));
+    let forms = [(Form::C, is_listed), (Form::Rust, true), (Form::Loose, true)];
+    let mut read =
+        forms.into_iter().filter(|(_, is_tried)| *is_tried).filter_map(|(form, _)| Some((form, form.read(text).ok()?)));
+    let Some((form, bytes)) = read.next() else {
+        return Err(arrays::likely(text).and_then(|form| Some((form, form.read(text).err()?))).unwrap_or((Form::Hex, hex)));
+    };
+    match read.find(|(_, others)| *others != bytes) {
+        Some((other, _)) => ambiguous(form, other),
+        None => Ok((form, bytes)),
+    }
 }
 
 /// The form of the tool whose mark the first line bears that is neither blank nor a comment of `#`.

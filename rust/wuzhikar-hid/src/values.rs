@@ -2,6 +2,7 @@
 
 mod lenient;
 mod physical;
+mod raw;
 mod reader;
 mod write;
 
@@ -11,5 +12,6 @@ mod tests;
 pub use crate::parts::field_values::Within;
 pub use crate::parts::report_read::{Changed, Reading, ReadingError, Value};
 pub use physical::{NoPhysical, NoValue, Physical};
+pub use raw::RawError;
 pub use reader::{Reader, ReaderError};
 pub use write::{Asked, Setting, Target, WriteError};

@@ -1,7 +1,8 @@
 //! Calls with a condition on their caller that nothing checks, for the crates of this workspace. Written by hand.
 //! **Not part of the stable interface.**
 
-use crate::parts::page_turnover::{Log, TurnRefusal};
+use crate::NorFlash;
+use crate::parts::page_turnover::{Log, Step, TurnRefusal};
 
 /// Calls of a log. Each names its condition; [`Log`] has calls that check it.
 pub trait LogCalls {
@@ -13,6 +14,12 @@ pub trait LogCalls {
     fn offer_copy(&mut self, word: u32);
     /// **Needs** a log that wants a copy or its commit header.
     fn seal(&mut self);
+    /// **Needs** a log with an append under way, on its own flash.
+    fn step_append<F: NorFlash>(&mut self, flash: &mut F) -> Step;
+    /// **Needs** a log that wants a copy, on its own flash.
+    fn step_copy<F: NorFlash>(&mut self, flash: &mut F, word: u32) -> Step;
+    /// **Needs** a log whose compaction was offered a copy or its commit header, on its own flash.
+    fn step_turn<F: NorFlash>(&mut self, flash: &mut F) -> Step;
 }
 
 impl LogCalls for Log {
@@ -30,6 +37,21 @@ impl LogCalls for Log {
 
     fn seal(&mut self) {
         Log::seal(self);
+    }
+
+    #[inline(always)]
+    fn step_append<F: NorFlash>(&mut self, flash: &mut F) -> Step {
+        Log::step_append(self, flash)
+    }
+
+    #[inline(always)]
+    fn step_copy<F: NorFlash>(&mut self, flash: &mut F, word: u32) -> Step {
+        Log::step_copy(self, flash, word)
+    }
+
+    #[inline(always)]
+    fn step_turn<F: NorFlash>(&mut self, flash: &mut F) -> Step {
+        Log::step_turn(self, flash)
     }
 }
 

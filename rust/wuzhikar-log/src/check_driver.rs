@@ -8,6 +8,10 @@ use crate::parts::flash_model::{NorFlash, PAGE_SLOTS, SLOT_BYTES};
 
 const BLANK: [u8; SLOT_BYTES] = [0xFF; SLOT_BYTES];
 
+/// Words beside their complements.
+const MIRRORED: [[u8; SLOT_BYTES]; 2] =
+    [[0x23, 0x23, 0x23, 0x23, 0xDC, 0xDC, 0xDC, 0xDC], [0xDC, 0xDC, 0x23, 0x23, 0x23, 0x23, 0xDC, 0xDC]];
+
 /// The place of a slot.
 #[derive(Clone, Copy, Debug, PartialEq, Eq)]
 pub struct Place {
@@ -50,7 +54,8 @@ pub enum DriverFault {
     OtherErased(Place),
     /// The program of a blank slot reported a fault.
     ProgramFailed(Place),
-    /// A slot reads as the bytes that it was programmed with, in another order.
+    /// A slot reads as the bytes that it was programmed with, in another order. Or, over a flash that looks after what it
+    /// programs, as [`PairedFlash`](crate::PairedFlash) does: it takes only words that read the same in another order.
     ByteOrder(Place),
     /// A slot does not read as the bytes that it was programmed with.
     NotProgrammed(Place),
@@ -74,7 +79,8 @@ pub enum DriverFault {
 /// then leaves the slot as the trait allows.
 ///
 /// It does not see what a power loss leaves, what changes by itself, or what error correction makes of a torn write. Nor does
-/// it see reads that come from a buffer and not from the cells.
+/// it see reads that come from a buffer and not from the cells, or what an operation does **outside of the pages**: fill the
+/// flash around them with a pattern, and compare it behind the check.
 ///
 /// # Errors
 ///
@@ -170,7 +176,13 @@ impl<F: NorFlash> Check<'_, F> {
         if self.read(place)? != BLANK {
             return Err(DriverFault::Shared(place));
         }
-        self.flash.program_slot(place.page, place.slot, bytes).map_err(|_| DriverFault::ProgramFailed(place))?;
+        if self.flash.program_slot(place.page, place.slot, bytes).is_err() {
+            return Err(if self.takes_mirrored_words_alone(place) {
+                DriverFault::ByteOrder(place)
+            } else {
+                DriverFault::ProgramFailed(place)
+            });
+        }
         let (mut now, mut meant) = (self.read(place)?, bytes);
         if now == meant {
             return Ok(());
@@ -178,6 +190,20 @@ impl<F: NorFlash> Check<'_, F> {
         now.sort_unstable();
         meant.sort_unstable();
         Err(if now == meant { DriverFault::ByteOrder(place) } else { DriverFault::NotProgrammed(place) })
+    }
+
+    /// Whether the slots behind this one take no word but those whose bytes, and those of their checks, read the same in another
+    /// order: with the bytes of each four turned round, or those of all eight.
+    fn takes_mirrored_words_alone(&mut self, place: Place) -> bool {
+        let behind = |count| Place { slot: place.slot + count, ..place };
+        if behind(MIRRORED.len() + 1).slot > PAGE_SLOTS - 1 || self.takes(behind(1), word(behind(1))) {
+            return false;
+        }
+        MIRRORED.into_iter().zip(2..).any(|(bytes, count)| self.takes(behind(count), bytes))
+    }
+
+    fn takes(&mut self, place: Place, bytes: [u8; SLOT_BYTES]) -> bool {
+        self.flash.program_slot(place.page, place.slot, bytes).is_ok() && self.flash.read_slot(place.page, place.slot) == bytes
     }
 
     /// Programs a slot whatever it holds.

@@ -98,11 +98,23 @@ const fn checked(codes: &[[u16; KEYS]; LAYERS]) -> [Code; ENTRIES] {
     while place < ENTRIES {
         table[place] = match Code::read(codes[place / KEYS][place % KEYS]) {
             Ok(code) => code,
-            Err(_) => panic!("a number of a layout is no code"),
+            Err(_) => refuse(place / KEYS, place % KEYS),
         };
         place += 1;
     }
     table
+}
+
+/// Stops the compiler, which says of which key.
+const fn refuse(layer: usize, key: usize) -> ! {
+    let mut said = *b"layer 0, key 00: the number is no code";
+    said[6] += layer as u8;
+    said[13] += (key / 10) as u8;
+    said[14] += (key % 10) as u8;
+    match core::str::from_utf8(&said) {
+        Ok(said) => panic!("{}", said),
+        Err(_) => panic!("the number is no code"),
+    }
 }
 
 /// Which switch of a matrix of `R` rows and `C` columns is which key.

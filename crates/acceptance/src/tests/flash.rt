@@ -14,24 +14,14 @@ fn one_page_is_no_flash(rt: HostRuntime) {
     }
 }
 
-/// A flash of so many pages, all FFh.
-fn is_blank(rt: &impl Abort, alloc: Global, pages: usize) {
-    let flash = SimFlash::new(alloc, pages).expect(rt, "a flash");
-    same(rt, &flash.pages(), &pages);
-    same(rt, &flash.image().len(), &(pages % 16 * 4096));
-    for byte in flash.image() {
-        same(rt, byte, &0xff);
-    }
-}
-
 #[test]
 fn a_new_flash_is_blank(rt: HostRuntime) {
-    is_blank(&rt, rt.alloc(), 2);
-}
-
-#[test]
-fn eight_pages_are_a_flash(rt: HostRuntime) {
-    is_blank(&rt, rt.alloc(), 8);
+    let flash = SimFlash::new(rt.alloc(), 2).expect(&rt, "a flash");
+    same(&rt, &flash.pages(), &2);
+    same(&rt, &flash.image().len(), &8192);
+    for byte in flash.image() {
+        same(&rt, byte, &0xff);
+    }
 }
 
 /// The flash of an image of so many bytes.

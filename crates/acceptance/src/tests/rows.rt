@@ -92,18 +92,6 @@ pub fn next(random: u32) -> u32 {
     random.wrapping_mul(1_664_525).wrapping_add(1_013_904_223)
 }
 
-/// Numbers that look random, the same in each run.
-#[derive(Drop)]
-pub struct Random(pub u32);
-
-impl Random {
-    /// One of 24 bits.
-    pub fn next(&mut self) -> u32 {
-        self.0 = next(self.0);
-        self.0 >> 8
-    }
-}
-
 /// The bytes of a slot that holds a word: the word beside its complement.
 pub fn good(word: u32) -> [u8; 8] {
     let [a, b, c, d] = word.to_le_bytes();

@@ -4,27 +4,6 @@ use arrayvec::ArrayVec;
 use std::io;
 use std::io::{ErrorKind, Read, Write};
 
-/// One byte so many times, at most so many in a read, and then a failure if `fails`.
-#[derive(Drop)]
-pub(super) struct Repeated {
-    pub(super) byte: u8,
-    pub(super) left: usize,
-    pub(super) most: usize,
-    pub(super) fails: bool,
-}
-
-impl Read for Repeated {
-    fn read(&mut self, buf: &mut [u8]) -> io::Result<usize> {
-        if self.left == 0 && self.fails {
-            return Err(io::Error::from(ErrorKind::Other));
-        }
-        let count = self.left.min(buf.len()).min(self.most);
-        buf[..count].fill(self.byte);
-        self.left -= count;
-        Ok(count)
-    }
-}
-
 /// Gives a text in pieces of at most five bytes, and fails at one of its reads.
 #[derive(Drop)]
 pub(super) struct FailingReader<'a> {
@@ -108,18 +87,4 @@ impl Write for FailingWriter {
 /// What a failing writer takes of a text before the write at which it fails.
 pub(super) fn before_it_fails(printed: &str, writes: usize) -> &str {
     printed.get(..writes.saturating_mul(3)).unwrap_or(printed)
-}
-
-/// A writer whose bytes never arrive.
-#[derive(Drop)]
-pub(super) struct NeverFlushed;
-
-impl Write for NeverFlushed {
-    fn write(&mut self, buf: &[u8]) -> io::Result<usize> {
-        Ok(buf.len())
-    }
-
-    fn flush(&mut self) -> io::Result<()> {
-        Err(io::Error::from(ErrorKind::Other))
-    }
 }

@@ -1,5 +1,5 @@
 -- Representation: what is kept between two items refines those before and those to come.
-use Rattle.std.specs.Prelude.{◌≡◌, ◌≢◌, ◌≤◌, ℕ, List, [], ◌∷◌, length}
+use Rattle.std.specs.Prelude.{◌≡◌, ◌≢◌, ◌≤◌, List, [], ◌∷◌, length}
 use Rattle.descriptor_parse.specs.Items.{ItemValue}
 use Rattle.descriptor_parse.specs.Tags.{is_report_size, is_report_count}
 use Rattle.descriptor_parse.specs.Globals.{unsigned, latest}

@@ -1,20 +1,14 @@
 -- Representation: what the private parts of a step owe each other; what a step guarantees is in Steps.
 use Rattle.shapes.specs.Shapes.{Bytes}
-use Rattle.std.specs.Prelude.{◌≡◌, ◌≢◌, ℕ, ◌+◌, ◌%◌, ◌^◌, ◌<◌, ◌≤◌, ◌⊎◌, Bool, true, false, MatchOption, ⊤}
+use Rattle.std.specs.Prelude.{◌≡◌, ℕ, ◌+◌, ◌%◌, ◌^◌, ◌<◌, ◌⊎◌, Bool, true, false}
 use Rattle.records.specs.declared.Slot.TheVariants.{Free}
 use Rattle.records.specs.Slots.{slot_of}
 use Rattle.flash_model.specs.declared.TheConstants.{PAGE_SLOTS}
-use Rattle.flash_model.specs.Image.{IsImage, page_count, slot_at}
+use Rattle.flash_model.specs.Image.{page_count, slot_at}
 use Rattle.page_turnover.specs.declared.log.ActivePage.{ActivePage}
-use Rattle.page_turnover.specs.declared.log.stepping.Step.{Step}
-use Rattle.page_turnover.specs.declared.log.stepping.Step.TheVariants.{Idle, Failed}
 use Rattle.page_turnover.specs.declared.operation.Operation.{Operation}
 use Rattle.page_turnover.specs.declared.operation.Operation.TheVariants.{Program, Erase}
-use Rattle.page_turnover.specs.Log.{HasTailRoom}
-use Rattle.page_turnover.specs.Turn.{copied}
-use Rattle.page_turnover.specs.Value.{LogValue, Task, Append, Copy, Seal}
 use Rattle.page_turnover.specs.Next.{Makes, MayMake, ReadsBack}
-use Rattle.page_turnover.specs.Steps.{EndsAs}
 
 -- an operation is within the flash, and programs only a Free slot
 abbrev pub CanMake : Bytes → Operation → Type 0
@@ -30,19 +24,6 @@ IsMade old operation false new = MayMake old operation new × (ReadsBack operati
 abbrev pub RaisesFaults : Bool → ℕ → ℕ → Type 0
 RaisesFaults true faults after = (after ≡ faults) ⊎ (after ≡ (faults + 1) % 2 ^ 64)
 RaisesFaults false faults after = after ≡ (faults + 1) % 2 ^ 64
-
--- what is counted on by a step is a number of a page, or of a header
-abbrev pub CanAdvance : Task → LogValue → Type 0
-CanAdvance (Append word) log = HasTailRoom log
-CanAdvance (Copy target word) log = copied target < 511
-CanAdvance (Seal target) log = (copied target ≤ 511) × MatchOption log.active ⊤ (λ a. a.seq < 2 ^ 28)
-CanAdvance _ log = Unit {0}
-
--- how the step ends that makes the operation whole
-pub record Advances (old : Bytes) (log : LogValue) (operation : Operation) (step : Step) (after : LogValue) : Type 0 where
-  pub not_idle : step ≢ Idle
-  pub not_failed : step ≢ Failed
-  pub ends : (new : Bytes) → IsImage new → Makes old operation new → EndsAs old log step new after
 
 -- the active page after a fault: a tail slot that is no longer Free is used up
 pub record IsPassedOver (image : Bytes) (before after : ActivePage) : Type 0 where

@@ -1,6 +1,6 @@
 -- Representation: what an image has where a log has something under way.
 use Rattle.shapes.specs.Shapes.{Bytes}
-use Rattle.std.specs.Prelude.{◌≡◌, ℕ, ◌+◌, ◌^◌, ◌<◌, ◌≤◌}
+use Rattle.std.specs.Prelude.{◌≡◌, ℕ, ◌+◌, ◌^◌, ◌<◌, ◌≤◌, Option, Some, None}
 use Rattle.records.specs.declared.Slot.{Slot}
 use Rattle.records.specs.declared.Slot.TheVariants.{Free, Good}
 use Rattle.records.specs.Slots.{slot_of}
@@ -48,3 +48,8 @@ UnderWay image (Append word) = Appending image word
 UnderWay image (Wait target) = Turning image target
 UnderWay image (Copy target word) = Copying image target word
 UnderWay image (Seal target) = Turning image target
+
+-- a compaction that was offered this word to copy, or its commit header
+abbrev pub task_of : Target → Option ℕ → Task
+task_of target (Some word) = Copy target word
+task_of target None = Seal target

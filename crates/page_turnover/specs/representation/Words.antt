@@ -1,7 +1,6 @@
 -- Representation: words from a slot on.
 use Rattle.shapes.specs.Shapes.{Bytes, SlotWords}
-use Rattle.std.specs.Prelude.{ℕ, ◌-◌, suc, zero, [], ◌++◌}
-use Rattle.records.specs.declared.Slot.TheVariants.{Good}
+use Rattle.std.specs.Prelude.{ℕ, suc, zero, [], ◌++◌}
 use Rattle.records.specs.Slots.{slot_of}
 use Rattle.flash_model.specs.Image.{slot_at}
 use Rattle.page_turnover.specs.Words.{word_of}

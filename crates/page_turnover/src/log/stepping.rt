@@ -1,17 +1,19 @@
 //! The steps of a log: one flash operation each.
 
-ghost use Rattle.std.specs.Prelude.{◌≡◌, ◌≢◌, ◌↔◌, ◌+◌, ◌%◌, ◌<◌, ◌≤◌, ◌^◌, ℕ, List, None, Some, Option, MatchOption, IsSomeAnd, ⊤};
+ghost use Rattle.std.specs.Prelude.{◌≡◌, ◌≢◌, ◌↔◌, ◌+◌, ◌-◌, ◌%◌, ◌<◌, ◌≤◌, ◌^◌, ℕ, List, None, Some, Option, MatchOption, IsSomeAnd, ⊤};
 ghost use Rattle.flash_model.specs.Image.{page_count};
+ghost use Rattle.page_turnover.specs.declared.operation.Operation.{Operation};
 ghost use Rattle.page_turnover.specs.Usable.{IsUsable};
-ghost use Rattle.page_turnover.specs.Value.{Rest, Append, Copy, Seal};
-ghost use Rattle.page_turnover.specs.representation.Value.{target_value};
-ghost use Rattle.page_turnover.specs.Turn.{target_page, copied, HasShortWord};
+ghost use Rattle.page_turnover.specs.Value.{Rest, Wait, Copy, Holds};
+ghost use Rattle.page_turnover.specs.representation.Value.{target_value, task_value};
+ghost use Rattle.page_turnover.specs.Turn.{target_page, copied, HasShortWord, IsAppend, HasOffer, CanOffer, with_copy};
 ghost use Rattle.page_turnover.specs.Next.{is_ready};
 ghost use Rattle.page_turnover.specs.representation.Made.{IsPassedOver};
+ghost use Rattle.page_turnover.specs.representation.Turn.{task_of};
 
 use super::{ActivePage, Log, Target, Task};
+use crate::attempt::{erase, program};
 use crate::header::{FORMAT, header};
-use crate::operation::{Operation, make};
 use crate::reading::{is_blank, is_free};
 use flash_model::{NorFlash, PAGE_SLOTS};
 
@@ -31,12 +33,10 @@ pub enum Step {
 }
 
 impl Log {
-    ghost use Rattle.page_turnover.specs.Log.{HasTailRoom};
     ghost use Rattle.page_turnover.specs.representation.Log.{Describes};
-    ghost use Rattle.page_turnover.specs.Next.{next_operation, append_operation, turn_operation, on_flash};
+    ghost use Rattle.page_turnover.specs.Next.{next_operation, on_flash};
     ghost use Rattle.page_turnover.specs.Operates.{Operates, MayOperate, FillsAtMostOne};
-    ghost use Rattle.page_turnover.specs.representation.Made.{Advances, CanAdvance};
-    ghost use Rattle.page_turnover.specs.Steps.{EndsAs, AttemptsNext, CountsAs, Moves, Commits};
+    ghost use Rattle.page_turnover.specs.Steps.{EndsAs, AttemptsNext, CountsAs, Moves, Commits, IsStep};
 
     /// Makes the one operation that is pending, or none where nothing is.
     ///
@@ -71,132 +71,115 @@ impl Log {
         // what this flash says of that operation
         ensures operated { (operation : Operation) → next_operation (F.image flash.old) self.old ≡ Some operation → F.operates flash.old (on_flash operation) flash.new }
     {
-        let Some(operation) = self.next(flash) else {
-            return Step::Idle;
-        };
-        if make(flash, operation) {
-            self.advance(operation)
-        } else {
-            self.fail(flash)
-        }
-    }
-
-    /// The operation that the next step makes, if anything is pending.
-    #[inline(always)]
-    fn next<F: NorFlash>(&self, flash: &F) -> Option<Operation>
-        requires { Describes (F.image flash.now) self.now }
-        ensures { result ≡ next_operation (F.image flash.now) self.now }
-    {
-        match self.task {
-            Task::Rest | Task::Wait(_) => None,
-            Task::Append(word) => self.next_append(word),
-            Task::Copy(target, word) => {
-                let slot = copies_of(target) + 1;
-                Some(self.on_target(flash, target, slot, word))
-            }
-            Task::Seal(target) => {
-                let word = header(self.next_seq());
-                Some(self.on_target(flash, target, 0, word))
-            }
-        }
-    }
-
-    /// A word goes to the tail slot.
-    fn next_append(&self, word: u32) -> Option<Operation>
-        ensures { result ≡ append_operation self.now.active word }
-    {
-        match self.active {
-            Some(active) => Some(Operation::Program(active.page, active.tail, word)),
-            None => None,
-        }
-    }
-
-    /// A word goes to a slot of a compaction's target, or the target is erased first.
-    fn on_target<F: NorFlash>(&self, flash: &F, target: Target, slot: u16, word: u32) -> Operation
-        requires { Describes (F.image flash.now) self.now }
-        ensures { result ≡ turn_operation (is_ready (F.image flash.now) (target_value target)) (F.image flash.now) slot word }
-    {
-        let page = self.target(flash);
-        if is_ready(flash, page, target) {
-            Operation::Program(page, slot, word)
-        } else {
-            Operation::Erase(page)
-        }
-    }
-
-    /// Takes what an operation did that was made whole, where the log lies.
-    #[inline(always)]
-    fn advance(&mut self, operation: Operation) -> Step
-        requires { CanAdvance self.old.task self.old }
-        ensures { (image : List ℕ) → Describes image self.old → next_operation image self.old ≡ Some operation → Advances image self.old operation result self.new }
-    {
         match self.task {
             Task::Rest | Task::Wait(_) => Step::Idle,
-            Task::Append(_) => self.advance_append(),
-            Task::Copy(target, word) => self.advance_copy(target, word, operation),
-            Task::Seal(target) => self.advance_seal(target, operation),
+            Task::Append(_) => self.step_append(flash),
+            Task::Copy(..) | Task::Seal(_) => self.step_turn(flash),
         }
     }
 
-    /// The tail slot is used.
-    fn advance_append(&mut self) -> Step
-        requires room { HasTailRoom self.old }
-        ensures { (image : List ℕ) (operation : Operation) (word : ℕ) → Describes image self.old → self.old.task ≡ Append word → next_operation image self.old ≡ Some operation → Advances image self.old operation result self.new }
+    /// Makes the append that is under way, as `step` does.
+    pub fn step_append<F: NorFlash>(&mut self, flash: &mut F) -> Step
+        requires describes { Describes (F.image flash.old) self.old }
+        requires appends { IsAppend self.old.task }
+        ensures steps { IsStep (F.image flash.old) self.old result (F.image flash.new) self.new }
+        ensures counts { CountsAs (result ≡ Step.Idle) (result ≡ Step.Failed) (F.operations flash.old) (F.operations flash.new) (F.faults flash.old) (F.faults flash.new) }
+        ensures faultless { F.is_faultless flash.old → HasShortWord self.old.task → F.is_faultless flash.new × (result ≢ Step.Failed) }
+        ensures operated { (operation : Operation) → next_operation (F.image flash.old) self.old ≡ Some operation → F.operates flash.old (on_flash operation) flash.new }
     {
+        let Task::Append(word) = self.task else {
+            unreachable!()
+        };
         let Some(active) = self.active else {
             unreachable!()
         };
-        self.active = Some(ActivePage {
-            page: active.page,
-            seq: active.seq,
-            format: active.format,
-            tail: active.tail + 1,
-        });
+        if !program(flash, active.page, active.tail, word) {
+            return self.fail(flash);
+        }
+        use_tail(&mut self.active);
         self.task = Task::Rest;
         Step::Committed
     }
 
-    /// The target holds one copy more, or was erased for the first one.
-    fn advance_copy(&mut self, target: Target, word: u32, operation: Operation) -> Step
-        requires pending { self.old.task ≡ Copy (target_value target) word }
-        requires few { copied (target_value target) < 511 }
-        ensures { (image : List ℕ) → Describes image self.old → next_operation image self.old ≡ Some operation → Advances image self.old operation result self.new }
+    /// Offers the next word to copy to a compaction that wants one and has made fewer than 511 copies, and makes the step:
+    /// `offer_copy` and `step` as one call.
+    #[inline(always)]
+    pub fn step_copy<F: NorFlash>(&mut self, flash: &mut F, word: u32) -> Step
+        requires describes { Describes (F.image flash.old) self.old }
+        requires can { CanOffer self.old.task }
+        ensures steps { IsStep (F.image flash.old) (record self.old { task = with_copy self.old.task word }) result (F.image flash.new) self.new }
+        ensures counts { CountsAs (result ≡ Step.Idle) (result ≡ Step.Failed) (F.operations flash.old) (F.operations flash.new) (F.faults flash.old) (F.faults flash.new) }
+        ensures faultless { F.is_faultless flash.old → HasShortWord (with_copy self.old.task word) → F.is_faultless flash.new × (result ≢ Step.Failed) }
+        ensures operated { (operation : Operation) → next_operation (F.image flash.old) (record self.old { task = with_copy self.old.task word }) ≡ Some operation → F.operates flash.old (on_flash operation) flash.new }
     {
-        match operation {
-            Operation::Program(..) => {
-                self.task = Task::Wait(Target::Holds(copies_of(target) + 1));
-                Step::Moved
-            }
-            Operation::Erase(_) => {
-                self.task = Task::Copy(Target::Holds(0), word);
-                Step::Moved
-            }
+        if let Task::Wait(Target::Holds(copied)) = self.task {
+            return self.put(flash, copied, word);
         }
+        self.offer_copy(word);
+        self.step_turn(flash)
     }
 
-    /// The target is the active page, or was erased for its header.
-    fn advance_seal(&mut self, target: Target, operation: Operation) -> Step
-        requires pending { self.old.task ≡ Seal (target_value target) }
-        requires few { copied (target_value target) ≤ 511 }
-        requires numbered { MatchOption self.old.active ⊤ (λ a. a.seq < 2 ^ 28) }
-        ensures { (image : List ℕ) → Describes image self.old → next_operation image self.old ≡ Some operation → Advances image self.old operation result self.new }
+    /// Makes the copy or the commit header that a compaction was offered, as `step` does.
+    pub fn step_turn<F: NorFlash>(&mut self, flash: &mut F) -> Step
+        requires describes { Describes (F.image flash.old) self.old }
+        requires offered { HasOffer self.old.task }
+        ensures steps { IsStep (F.image flash.old) self.old result (F.image flash.new) self.new }
+        ensures counts { CountsAs (result ≡ Step.Idle) (result ≡ Step.Failed) (F.operations flash.old) (F.operations flash.new) (F.faults flash.old) (F.faults flash.new) }
+        ensures faultless { F.is_faultless flash.old → HasShortWord self.old.task → F.is_faultless flash.new × (result ≢ Step.Failed) }
+        ensures operated { (operation : Operation) → next_operation (F.image flash.old) self.old ≡ Some operation → F.operates flash.old (on_flash operation) flash.new }
     {
-        match operation {
-            Operation::Program(page, _, _) => {
+        let (target, next) = offer_of(self.task);
+        let page = self.target(flash);
+        if !is_ready(flash, page, target) {
+            if !erase(flash, page) {
+                return self.fail(flash);
+            }
+            self.task = task_of(Target::Holds(0), next);
+            return Step::Moved;
+        }
+        let slot = copies_of(target) + 1;
+        match next {
+            Some(word) => {
+                if !program(flash, page, slot, word) {
+                    return self.fail(flash);
+                }
+                self.task = Task::Wait(Target::Holds(slot));
+                Step::Moved
+            }
+            None => {
+                let seq = self.next_seq();
+                if !program(flash, page, 0, header(seq)) {
+                    return self.fail(flash);
+                }
                 self.active = Some(ActivePage {
                     page,
-                    seq: self.next_seq(),
+                    seq,
                     format: FORMAT,
-                    tail: copies_of(target) + 1,
+                    tail: slot,
                 });
                 self.task = Task::Rest;
                 Step::Committed
             }
-            Operation::Erase(_) => {
-                self.task = Task::Seal(Target::Holds(0));
-                Step::Moved
-            }
         }
+    }
+
+    /// A copy goes to the slot after those before it.
+    #[inline(always)]
+    fn put<F: NorFlash>(&mut self, flash: &mut F, copied: u16, word: u32) -> Step
+        requires describes { Describes (F.image flash.old) self.old }
+        requires waits { self.old.task ≡ Wait (Holds copied) }
+        requires few { copied < 511 }
+        ensures steps { IsStep (F.image flash.old) (record self.old { task = Copy (Holds copied) word }) result (F.image flash.new) self.new }
+        ensures counts { CountsAs (result ≡ Step.Idle) (result ≡ Step.Failed) (F.operations flash.old) (F.operations flash.new) (F.faults flash.old) (F.faults flash.new) }
+        ensures faultless { F.is_faultless flash.old → word < 2 ^ 31 → F.is_faultless flash.new × (result ≢ Step.Failed) }
+        ensures operated { (operation : Operation) → next_operation (F.image flash.old) (record self.old { task = Copy (Holds copied) word }) ≡ Some operation → F.operates flash.old (on_flash operation) flash.new }
+    {
+        let page = self.target(flash);
+        if !program(flash, page, copied + 1, word) {
+            return self.fail(flash);
+        }
+        self.task = Task::Wait(Target::Holds(copied + 1));
+        Step::Moved
     }
 
     /// Ends what is under way: its operation does not read as intended.
@@ -207,10 +190,9 @@ impl Log {
         ensures rests { self.new.task ≡ Rest }
         ensures failed { result ≡ Step.Failed }
     {
-        self.active = match self.active {
-            Some(active) => Some(passed_over(flash, active)),
-            None => None,
-        };
+        if let Some(active) = &mut self.active {
+            pass_over(flash, active);
+        }
         self.task = Task::Rest;
         Step::Failed
     }
@@ -250,21 +232,50 @@ fn page_after(page: u8, pages: usize) -> u8
     if (next as usize) < pages { next } else { 0 }
 }
 
-/// The active page after a fault: a tail slot that is no longer Free is used up.
-fn passed_over<F: NorFlash>(flash: &F, active: ActivePage) -> ActivePage
-    requires { active.page < page_count (F.image flash.now) }
-    ensures { IsPassedOver (F.image flash.now) active result }
+/// Passes over the tail slot of the active page after a fault, if it is no longer Free.
+fn pass_over<F: NorFlash>(flash: &F, active: &mut ActivePage)
+    requires { active.old.page < page_count (F.image flash.now) }
+    ensures { IsPassedOver (F.image flash.now) active.old active.new }
 {
-    if active.tail >= PAGE_SLOTS as u16
-        || is_free(flash, active.page as usize, active.tail as u32)
+    if active.tail < PAGE_SLOTS as u16
+        && !is_free(flash, active.page as usize, active.tail as u32)
     {
-        return active;
+        active.tail += 1;
     }
-    ActivePage {
-        page: active.page,
-        seq: active.seq,
-        format: active.format,
-        tail: active.tail + 1,
+}
+
+/// One slot more of the active page is used.
+#[inline(always)]
+fn use_tail(active: &mut Option<ActivePage>)
+    requires { MatchOption active.old ⊤ (λ a. a.tail < 2 ^ 16 - 1) }
+    ensures { MatchOption active.old ⊤ (λ a. active.new ≡ Some (record a { tail = a.tail + 1 })) }
+{
+    if let Some(active) = active {
+        active.tail += 1;
+    }
+}
+
+/// What a compaction was offered: its target, and the word to copy, or none for its commit header.
+#[inline(always)]
+fn offer_of(task: Task) -> (Target, Option<u32>)
+    requires { HasOffer (task_value task) }
+    ensures { task_value task ≡ task_of (target_value result.0) result.1 }
+{
+    match task {
+        Task::Copy(target, word) => (target, Some(word)),
+        Task::Seal(target) => (target, None),
+        Task::Rest | Task::Append(_) | Task::Wait(_) => unreachable!(),
+    }
+}
+
+/// A compaction to this target that was offered a word to copy, or its commit header.
+#[inline(always)]
+fn task_of(target: Target, next: Option<u32>) -> Task
+    ensures { task_value result ≡ task_of (target_value target) next }
+{
+    match next {
+        Some(word) => Task::Copy(target, word),
+        None => Task::Seal(target),
     }
 }
 

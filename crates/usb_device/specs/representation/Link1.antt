@@ -115,10 +115,14 @@ Now1 Rests s b calls = Resting s b calls
 Now1 Begins s b calls = Beginning s b calls
 Now1 Goes s b calls = Going s b calls
 
+-- what stands of the buffers does not read these two
+abbrev pub core : ReportState → ReportState
+core s = record s { protocol = false; left = 0 }
+
 pub record Link1 (s : ReportState) (b : Bus1) (calls : List EpCall) : Type 0 where
   pub asked : s.protocol ≡ sets_protocol (asked_of calls)
   pub fresh : b.reset ≡ true → b ≡ blank true
-  pub current : b.reset ≡ false → Now1 s.course s b calls
+  pub current : b.reset ≡ false → Now1 s.course (core s) b calls
 
 -- a report is under way
 abbrev pub is_under_way : Course → Bool

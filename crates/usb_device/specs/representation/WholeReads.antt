@@ -1,5 +1,5 @@
 -- Representation: the data stage of a whole control read.
-use Rattle.std.specs.Prelude.{ℕ, ◌≡◌, List, [], ◌∷◌, length}
+use Rattle.std.specs.Prelude.{ℕ, ◌≡◌, List, ◌∷◌, length}
 use Rattle.usb_device.specs.declared.answer.EpAnswer.{EpAnswer}
 use Rattle.usb_device.specs.declared.answer.EpAnswer.TheVariants.{Nak}
 use Rattle.usb_device.specs.declared.whole_transfers.TransferError.{TransferError}

@@ -2,7 +2,7 @@
 
 use super::ends::Ended;
 use super::items::flag_words;
-use super::texts::reader_of;
+use super::texts::Descriptor;
 use std::io::{self, Write};
 use wuzhikar_hid::{Collection, Detail, Details, Dimension, Reader, UsageName};
 
@@ -109,8 +109,8 @@ fn put_field(
 }
 
 /// Prints the tree of a descriptor, and its reports.
-pub fn parse(text: &[u8], out: &mut impl Write) -> Result<(), Ended> {
-    let reader = reader_of(text)?;
+pub fn parse(descriptor: &Descriptor<'_>, out: &mut impl Write) -> Result<(), Ended> {
+    let reader = descriptor.reader()?;
     let mut fields = 0;
     for (node, depth) in nodes(&reader) {
         let indent = "  ".repeat(depth);

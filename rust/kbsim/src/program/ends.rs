@@ -2,10 +2,14 @@
 
 use super::files;
 use kbsim::LinesError;
+use std::ffi::OsString;
 use std::fmt::Display;
 use std::io::{self, Write};
 use std::process::ExitCode;
 use thiserror::Error;
+
+/// The line of a fault that nothing given has.
+const MEMORY: &str = "fault memory";
 
 /// Why a command ends early. What is shown is what standard error says.
 #[derive(Debug, Error)]
@@ -34,7 +38,25 @@ impl Ended {
 
     /// Want of memory.
     pub fn memory() -> Ended {
-        Ended::fault("fault memory", "out of memory")
+        Ended::fault(MEMORY, "out of memory")
+    }
+
+    /// The same of what a path gives, which the sentence names.
+    pub fn of(self, path: Option<&OsString>) -> Ended {
+        let named = |sentence: String| format!("{}{sentence}", files::named(path));
+        match self {
+            Ended::Fault { line, sentence } if line != MEMORY => Ended::fault(line, named(sentence)),
+            Ended::Said(sentence) => Ended::Said(named(sentence)),
+            other => other,
+        }
+    }
+
+    /// The same fault, of which its sentence says this too.
+    pub fn with(self, more: &str) -> Ended {
+        match self {
+            Ended::Fault { line, sentence } => Ended::fault(line, sentence + more),
+            other => other,
+        }
     }
 
     /// Tells it; the exit status.
@@ -56,8 +78,10 @@ impl Ended {
             Ended::Said(_) | Ended::Output => Ok(()),
         };
         match (printed, &self) {
-            (Err(_), _) => tell(&Ended::Output),
             (Ok(()), Ended::Closed(_)) => {}
+            // (Who has closed the pipe has read all that is wanted.)
+            (Err(_), _) | (_, Ended::Output) if files::is_closed() => {}
+            (Err(_), _) => tell(&Ended::Output),
             (Ok(()), ended) => tell(ended),
         }
         ExitCode::FAILURE

@@ -6,18 +6,44 @@ use kbsim::parts::text_io::{ReadError, read_text};
 use std::env;
 use std::ffi::OsString;
 use std::fs::{self, File};
-use std::io::{self, Read, Write};
+use std::io::{self, ErrorKind, Read, Write};
 use std::path::Path;
+use std::sync::atomic::{AtomicBool, Ordering};
+
+/// Whether the pipe is closed that standard output leads to.
+static IS_CLOSED: AtomicBool = AtomicBool::new(false);
+
+/// Standard output, which keeps whether it is a closed pipe.
+struct Output<W>(W);
+
+impl<W: Write> Write for Output<W> {
+    fn write(&mut self, bytes: &[u8]) -> io::Result<usize> {
+        let written = self.0.write(bytes);
+        if written.as_ref().is_err_and(|error| error.kind() == ErrorKind::BrokenPipe) {
+            IS_CLOSED.store(true, Ordering::Relaxed);
+        }
+        written
+    }
+
+    fn flush(&mut self) -> io::Result<()> {
+        self.0.flush()
+    }
+}
+
+/// Whether standard output was found to be a closed pipe.
+pub fn is_closed() -> bool {
+    IS_CLOSED.load(Ordering::Relaxed)
+}
 
 #[cfg(unix)]
 pub fn output() -> io::Result<impl Write> {
     use std::os::fd::AsFd;
-    Ok(File::from(io::stdout().as_fd().try_clone_to_owned()?))
+    Ok(Output(File::from(io::stdout().as_fd().try_clone_to_owned()?)))
 }
 
 #[cfg(not(unix))]
 pub fn output() -> io::Result<impl Write> {
-    Ok(io::stdout())
+    Ok(Output(io::stdout()))
 }
 
 #[cfg(unix)]
@@ -34,6 +60,11 @@ fn input() -> io::Result<io::Stdin> {
 /// Whether a path stands for standard input: where there is none, or it is `-`.
 pub fn is_input(path: Option<&OsString>) -> bool {
     path.is_none_or(|path| path == "-")
+}
+
+/// What a sentence about a path begins with: nothing where it is standard input.
+pub fn named(path: Option<&OsString>) -> String {
+    path.filter(|path| *path != "-").map_or_else(String::new, |path| format!("{}: ", Path::new(path).display()))
 }
 
 /// What a path names, open to be read, and whether it is a device that gives a report at each read.
@@ -70,13 +101,36 @@ pub fn live(path: &OsString) -> Result<(File, bool, Vec<u8>), Ended> {
     Ok((file, is_device, text))
 }
 
+/// The most bytes of a text.
+const MOST: usize = 1_048_576;
+
 /// All of a text, at most 1,048,576 bytes; a sentence calls it this.
 pub fn text_of(path: Option<&OsString>, name: &str) -> Result<Vec<u8>, Ended> {
-    read_text((), &mut opened(path)?.0).map_err(|error| match error {
-        ReadError::TooLong => Ended::fault("fault too long", format!("the {name} is longer than 1048576 bytes")),
-        ReadError::Input => Ended::fault("fault input", format!("the {} can't be read", name.replace("script", "input"))),
+    let read = read_text((), &mut opened(path)?.0);
+    read.map_err(|error| match error {
+        ReadError::TooLong => too_long(path, name),
+        ReadError::Input => {
+            Ended::fault("fault input", format!("the {} can't be read", name.replace("script", "input"))).of(path)
+        }
         ReadError::Memory => Ended::memory(),
     })
+}
+
+/// The refusal of a text that is too long.
+pub fn too_long(path: Option<&OsString>, name: &str) -> Ended {
+    Ended::fault("fault too long", format!("the {name} is longer than {MOST} bytes")).of(path)
+}
+
+/// The lines of a text within its first 1,048,576 bytes, and whether more follow.
+pub fn start_of(path: Option<&OsString>, name: &str) -> Result<(Vec<u8>, bool), Ended> {
+    let mut text = Vec::new();
+    let read = opened(path)?.0.take(MOST as u64 + 1).read_to_end(&mut text);
+    read.map_err(|_| Ended::fault("fault input", format!("the {name} can't be read")).of(path))?;
+    let is_cut = text.len() > MOST;
+    if is_cut {
+        text.truncate(text.iter().rposition(|byte| *byte == b'\n').map_or(0, |end| end + 1));
+    }
+    Ok((text, is_cut))
 }
 
 /// The number of a device as sysfs writes it, which is 0:0 of a file or a FIFO.

@@ -1,6 +1,7 @@
 //! `parse --items`: each item of a report descriptor, up to the first fault, in words (HID 1.11, section 6.2.2).
 
 use super::ends::Ended;
+use super::texts::Descriptor;
 use std::io::{self, Write};
 use wuzhikar_hid::UsageName;
 use wuzhikar_reader::parts::descriptor_parse::beside::{Beside, Refusal, parse_beside};
@@ -49,26 +50,26 @@ impl Beside for Lines {
     }
 }
 
-/// Prints a line for each item; of a descriptor with a fault those up to it, and the fault is answered.
-pub fn parse(text: &[u8], out: &mut impl Write) -> Result<(), Ended> {
+/// Prints a line for each item; of a descriptor with a fault those up to it, and the fault is answered. In the lenient mode they
+/// are the items that are read, at the offsets of those that they stand for.
+pub fn parse(descriptor: &Descriptor<'_>, out: &mut impl Write) -> Result<(), Ended> {
     let mut lines = Lines::default();
-    match parse_beside((), text, &mut lines).err() {
-        None => Ok(put_lines(text, &lines.all, None, out)?),
+    match parse_beside((), descriptor.text(), &mut lines).err() {
+        None => Ok(put_lines(descriptor, &lines.all, None, out)?),
         Some(Refusal::Parse(error)) if error.fault != ParseFault::Memory => {
-            put_lines(text, &lines.all, Some(error), out)?;
+            put_lines(descriptor, &lines.all, Some(error), out)?;
             out.flush()?;
-            let line = format!("fault parse {} at {}", error.fault.number(), error.offset);
-            Err(Ended::fault(line, super::sentences::of_item(text, error)))
+            Err(descriptor.refused(error))
         }
         Some(_) => Err(Ended::memory()),
     }
 }
 
-fn put_lines(text: &[u8], lines: &[Line], fault: Option<ParseError>, out: &mut impl Write) -> io::Result<()> {
-    let mut end = 0;
+fn put_lines(descriptor: &Descriptor<'_>, lines: &[Line], fault: Option<ParseError>, out: &mut impl Write) -> io::Result<()> {
+    let (text, mut end) = (descriptor.text(), 0);
     for line in lines.iter().take_while(|line| fault.is_none_or(|error| line.offset <= error.offset)) {
         end = line.end;
-        put_bytes(line.offset, &text[line.offset..end], out)?;
+        put_bytes(descriptor.origin(line.offset), &text[line.offset..end], out)?;
         write!(out, "{:indent$}{}", "", line.words, indent = 2 * line.depth)?;
         match fault.filter(|error| error.offset == line.offset) {
             Some(error) => return writeln!(out, "  {}", mark(error.fault)),
@@ -77,7 +78,7 @@ fn put_lines(text: &[u8], lines: &[Line], fault: Option<ParseError>, out: &mut i
     }
     // (A fault that no item has stands at the end, or at what is left of one.)
     let Some(error) = fault else { return Ok(()) };
-    put_bytes(error.offset, if error.offset == end { &text[end..] } else { &[] }, out)?;
+    put_bytes(descriptor.origin(error.offset), if error.offset == end { &text[end..] } else { &[] }, out)?;
     writeln!(out, "{}", mark(error.fault))
 }
 

@@ -3,13 +3,10 @@
 use super::details::bit_words;
 use super::ends::Ended;
 use super::items::depth_behind;
-use super::read::Names;
-use super::texts::reader_of;
+use super::texts::Descriptor;
 use serde_json::{Value as Json, json};
-use std::io::{self, Write};
-use wuzhikar_hid::{
-    Detail, Details, Dimension, Kind, Reader, ReaderError, Reading, ReadingError, UsageName, Value, Within, details,
-};
+use std::io::Write;
+use wuzhikar_hid::{Detail, Details, Dimension, Reader, ReaderError, UsageName, details};
 use wuzhikar_reader::parts::descriptor_parse::beside::{Beside, Refusal, parse_beside};
 use wuzhikar_reader::parts::descriptor_parse::globals::Globals;
 use wuzhikar_reader::parts::descriptor_parse::number::unsigned;
@@ -17,7 +14,7 @@ use wuzhikar_reader::parts::descriptor_parse::state::State;
 use wuzhikar_reader::{AllocError, Item, MainTag, Tag, parse as parsed};
 
 /// The version of the schema.
-const VERSION: u32 = 1;
+pub const VERSION: u32 = 1;
 
 fn unit(detail: &Detail) -> Json {
     let dimensions: serde_json::Map<String, Json> = Dimension::ALL
@@ -66,10 +63,10 @@ fn field(details: &Details, place: usize, ranges: &[(u32, u32)], number: Option<
 }
 
 /// The data items, those that take no bits among them: each with its place among the details, where it has one.
-fn fields(text: &[u8], reader: &Reader) -> Result<Vec<(Option<usize>, Json)>, Refusal> {
+fn fields(descriptor: &Descriptor<'_>, reader: &Reader) -> Result<Vec<(Option<usize>, Json)>, Refusal> {
     let mut number = 0;
     let mut all: Vec<(usize, Option<usize>, Json)> =
-        empty(text)?.into_iter().map(|(offset, item)| (offset, None, item)).collect();
+        empty(descriptor.text())?.into_iter().map(|(offset, item)| (offset, None, item)).collect();
     for (place, detail) in reader.details().fields.iter().enumerate() {
         let is_field = !detail.is_constant();
         let ranges = if is_field { reader.descriptor().ranges(number) } else { &[] };
@@ -77,8 +74,8 @@ fn fields(text: &[u8], reader: &Reader) -> Result<Vec<(Option<usize>, Json)>, Re
         number += usize::from(is_field);
     }
     all.sort_by_key(|(offset, ..)| *offset);
-    let placed = all.into_iter().enumerate().map(|(place, (_, own, mut item))| {
-        item["place"] = json!(place);
+    let placed = all.into_iter().enumerate().map(|(place, (offset, own, mut item))| {
+        (item["place"], item["offset"]) = (json!(place), json!(descriptor.origin(offset)));
         (own, item)
     });
     Ok(placed.collect())
@@ -195,14 +192,14 @@ fn empty(text: &[u8]) -> Result<Vec<(usize, Json)>, Refusal> {
 }
 
 /// The collections of a descriptor.
-fn collections(reader: &Reader) -> Json {
+fn collections(descriptor: &Descriptor<'_>, reader: &Reader) -> Json {
     reader
         .details()
         .collections
         .iter()
         .map(|collection| {
             json!({
-                "offset": collection.offset,
+                "offset": descriptor.origin(collection.offset),
                 "type": collection.kind,
                 "type_name": collection.kind_name(),
                 "usage": collection.usage,
@@ -226,74 +223,39 @@ fn reports(reader: &Reader, places: &[usize]) -> Json {
         .collect()
 }
 
-/// Prints a descriptor as one object.
-pub fn parse(text: &[u8], out: &mut impl Write) -> Result<(), Ended> {
-    let reader = reader_of(text)?;
-    let fields = fields(text, &reader).map_err(|_| Ended::memory())?;
+/// Prints a descriptor as one object, in the lenient mode with the faults that are passed over. Offsets are those in what is given.
+pub fn parse(descriptor: &Descriptor<'_>, is_lenient: bool, out: &mut impl Write) -> Result<(), Ended> {
+    let reader = descriptor.reader()?;
+    let fields = fields(descriptor, &reader).map_err(|_| Ended::memory())?;
     let places: Vec<usize> = (0..).zip(&fields).filter_map(|(at, (own, _))| own.map(|_| at)).collect();
-    let all = json!({
+    let mut all = json!({
         "version": VERSION,
         "uses_ids": reader.descriptor().uses_ids(),
-        "collections": collections(&reader),
+        "collections": collections(descriptor, &reader),
         "reports": reports(&reader, &places),
         "fields": fields.into_iter().map(|(_, item)| item).collect::<Json>(),
     });
+    if is_lenient {
+        all["passed"] = passed(descriptor);
+    }
     Ok(writeln!(out, "{all:#}")?)
 }
 
-/// The bytes of each field of Buffered Bytes in a report of a kind.
-pub fn buffered(reader: &Reader, (kind, report): (Kind, &[u8]), reading: Reading<'_>) -> Result<Vec<Json>, ReadingError> {
-    let is_first = |value: &Value| value.place == 0 && reader.detail(value.field).is_some_and(Detail::is_buffered);
-    reading
-        .filter(is_first)
-        .map(|value| {
-            let bytes = reader.buffered(kind, report, value.field)?;
-            Ok(json!({"field": value.field, "usage": value.usage, "name": value.usage.map(|usage| UsageName(usage).to_string()),
-                      "bytes": bytes}))
-        })
-        .collect()
+/// The faults that are passed over, each with its offset.
+pub fn passed(descriptor: &Descriptor<'_>) -> Json {
+    descriptor.passed().map(|passed| json!({"fault": passed.fault.number(), "offset": passed.offset})).collect()
 }
 
-/// Prints the object of a report, a value at a time, with what is read of it and its fields of Buffered Bytes.
-pub fn put_report(
-    reader: &Reader,
-    reading: Reading<'_>,
-    buffered: &[Json],
-    names: &mut Names,
-    out: &mut impl Write,
-) -> io::Result<()> {
-    let (id, rest) = (reading.id(), json!(reading.rest()));
-    write!(out, "{{\"buffered\":{},\"id\":{id},\"rest\":{rest},\"values\":[", json!(buffered))?;
-    for (at, value) in reading.enumerate() {
-        let comma = if at == 0 { "" } else { "," };
-        write!(out, "{comma}{}", value_of(reader, &value, names))?;
+/// The object of the faults that are passed over before reports are read.
+pub fn passed_alone(descriptor: &Descriptor<'_>) -> Json {
+    json!({"version": VERSION, "passed": passed(descriptor)})
+}
+
+/// The object of a report that is refused; of one that is too short, with the number of bytes that it has and that it needs.
+pub fn refused(name: &str, lengths: Option<(usize, usize)>) -> Json {
+    let mut refused = json!({"version": VERSION, "error": name});
+    if let Some((found, needed)) = lengths {
+        (refused["found"], refused["needed"]) = (json!(found), json!(needed));
     }
-    writeln!(out, "],\"version\":{VERSION}}}")
-}
-
-/// The object of a value.
-fn value_of(reader: &Reader, value: &Value, names: &mut Names) -> Json {
-    let physical = reader.detail(value.field).and_then(|detail| detail.physical_value(value.raw).ok());
-    let within = match value.within {
-        Within::Range => "range",
-        Within::Null => "null",
-        Within::Out => "out",
-    };
-    json!({
-        "field": value.field,
-        "place": value.place,
-        "usage": value.usage,
-        "name": value.usage.map(|usage| names.of(usage)),
-        "value": value.raw,
-        "within": within,
-        "physical": physical.map(|exact| {
-            json!({"numerator": exact.numerator.to_string(), "denominator": exact.denominator.to_string(),
-                   "exponent": exact.exponent, "decimal": exact.decimal(6)})
-        }),
-    })
-}
-
-/// The object of a report that is refused.
-pub fn refused(name: &str) -> Json {
-    json!({"version": VERSION, "error": name})
+    refused
 }

@@ -1,10 +1,9 @@
 //! What a report descriptor declares: its fields, its items, or all of it.
 
 use super::ends::Ended;
-use super::texts::{bytes_given, form_of, lenient_of};
+use super::texts::{Descriptor, bytes_in, bytes_in_hex, form_of};
 use super::{details, files, items, json, sentences};
 use clap::ArgMatches;
-use kbsim::texts::Form;
 use kbsim::{LinesError, parse_text};
 use std::ffi::OsString;
 use std::io::{BufWriter, Write};
@@ -16,18 +15,24 @@ pub fn describe() -> Result<(), Ended> {
 
 /// Prints what is asked for of the report descriptor that is given.
 pub fn parse(given: &ArgMatches) -> Result<(), Ended> {
+    let (path, is_lenient) = (given.get_one::<OsString>("file"), given.get_flag("lenient"));
+    let text = files::text_of(path, "text")?;
     let is_whole = given.get_flag("details") || given.get_flag("json");
-    let form = form_of(given, if is_whole { None } else { Some(Form::Hex) });
+    let bytes =
+        if is_whole { bytes_in(&text, form_of(given, None)).map(|(_, bytes)| bytes) } else { bytes_in_hex(&text, given) };
+    let descriptor = Descriptor::new(path, bytes.map_err(|ended| ended.of(path))?, is_lenient)?;
     let mut out = BufWriter::new(files::output()?);
-    let bytes = lenient_of(bytes_given(given.get_one::<OsString>("file"), form)?, given, &mut out)?;
-    if given.get_flag("details") {
-        details::parse(&bytes, &mut out)?;
-    } else if given.get_flag("json") {
-        json::parse(&bytes, &mut out)?;
-    } else if given.get_flag("items") {
-        items::parse(&bytes, &mut out)?;
+    if given.get_flag("json") {
+        json::parse(&descriptor, is_lenient, &mut out)?;
     } else {
-        fields(&bytes, &mut out)?;
+        descriptor.put_passed(&mut out)?;
+        if given.get_flag("items") {
+            items::parse(&descriptor, &mut out)?;
+        } else if given.get_flag("details") {
+            details::parse(&descriptor, &mut out)?;
+        } else {
+            fields(&descriptor, &mut out)?;
+        }
     }
     Ok(out.flush()?)
 }
@@ -36,10 +41,12 @@ pub fn parse(given: &ArgMatches) -> Result<(), Ended> {
 const MOST: usize = 8192;
 
 /// Prints a line for each field, by the exported call.
-fn fields(bytes: &[u8], out: &mut impl Write) -> Result<(), Ended> {
+fn fields(descriptor: &Descriptor<'_>, out: &mut impl Write) -> Result<(), Ended> {
+    descriptor.checked()?;
+    let bytes = descriptor.text();
     let text = hex::encode(&bytes[..bytes.len().min(MOST)]);
     parse_text(&mut text.as_bytes(), out).map_err(|error| match error {
-        LinesError::Refused(error) => Ended::Said(sentences::of_item(bytes, error)),
+        LinesError::Refused(error) => Ended::Said(sentences::of_item(bytes, error)).of(descriptor.path()),
         error => error.into(),
     })
 }

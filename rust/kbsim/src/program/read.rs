@@ -1,34 +1,23 @@
 //! `read`: the values of reports as they come.
 
 use super::ends::{Ended, tell};
-use super::texts::{bytes_in, bytes_of, form_of, lenient_of, reader_of};
-use super::{files, json, sentences, words};
+use super::pieces::{Names, put_number};
+use super::texts::{Descriptor, bytes_in, bytes_of, form_of};
+use super::usbmon::{self, Address};
+use super::{files, json, report_json, sentences, words};
 use clap::ArgMatches;
-use kbsim::texts::{Form, Line, line_of};
+use kbsim::texts::{Form, Line, Mark, line_of};
 use std::collections::HashMap;
 use std::ffi::OsString;
 use std::io::{self, Read, Write};
 use std::process::ExitCode;
-use wuzhikar_hid::{Changed, Kind, Reader, ReadingError, UsageName, Value, Within};
+use wuzhikar_hid::{Changed, Kind, Reader, Reading, ReadingError, Value, Within};
 
 /// How many bytes are asked for at once.
 const PIECE: usize = 65_536;
 
 /// The longest line or report that is kept.
 const LONGEST: usize = 65_536;
-
-/// The names of usages that were told, at most 4,096 of them: to look one up takes a search.
-#[derive(Default)]
-pub struct Names(HashMap<u32, String>);
-
-impl Names {
-    pub fn of(&mut self, usage: u32) -> &str {
-        if self.0.len() == 4_096 && !self.0.contains_key(&usage) {
-            self.0.clear();
-        }
-        self.0.entry(usage).or_insert_with(|| UsageName(usage).to_string())
-    }
-}
 
 /// A block of usbhid-dump: the number of its first line, and its bytes, unless it holds no report or was refused.
 struct Block {
@@ -40,6 +29,12 @@ struct Block {
 struct Teller<'a, W> {
     reader: &'a Reader,
     kind: Kind,
+    /// The path that gives the reports, and what they are numbered by: a line, or a report.
+    path: Option<&'a OsString>,
+    numbered: &'static str,
+    /// The address that is asked for, and that of the packets so far.
+    asked: Option<Address>,
+    found: Option<Address>,
     /// Whether usages have their names, and whether a report is an object of JSON.
     names_usages: bool,
     json: bool,
@@ -54,26 +49,6 @@ struct Teller<'a, W> {
     line: Vec<u8>,
     /// The block that the lines stand in.
     block: Option<Block>,
-}
-
-/// Appends a number in decimal.
-fn put_number(line: &mut Vec<u8>, number: i64) {
-    if let 0..=9 = number {
-        return line.push(b'0' + number as u8);
-    }
-    if number < 0 {
-        line.push(b'-');
-    }
-    let (mut left, mut digits, mut first) = (number.unsigned_abs(), [0; 20], 20);
-    loop {
-        first -= 1;
-        digits[first] = b'0' + (left % 10) as u8;
-        left /= 10;
-        if left == 0 {
-            break;
-        }
-    }
-    line.extend_from_slice(&digits[first..]);
 }
 
 impl<W: Write> Teller<'_, W> {
@@ -134,9 +109,8 @@ impl<W: Write> Teller<'_, W> {
     /// Puts a usage behind a blank, or behind another sign.
     fn put_usage(&mut self, before: u8, usage: u32) {
         if self.names_usages {
-            self.line.extend_from_slice(&[before, b'"']);
-            self.line.extend_from_slice(self.names.of(usage).as_bytes());
-            return self.line.push(b'"');
+            self.line.push(before);
+            return self.line.extend_from_slice(self.names.of(usage).as_bytes());
         }
         let digit = |shift: u32| b"0123456789abcdef"[(usage >> shift & 15) as usize];
         let digits = [before, digit(28), digit(24), digit(20), digit(16), digit(12), digit(8), digit(4), digit(0)];
@@ -168,45 +142,75 @@ impl<W: Write> Teller<'_, W> {
 
     /// Tells one report.
     fn tell(&mut self, report: &[u8]) -> io::Result<()> {
-        match self.reader.read(self.kind, report) {
+        let told = match self.reader.read(self.kind, report) {
+            Err(error) => Err(error),
+            Ok(reading) if self.last.is_some() => return self.tell_changes(reading.id(), report),
+            Ok(reading) if self.json => return self.tell_object(report, reading),
+            Ok(reading) => self.put_reading(report, reading),
+        };
+        match told {
+            Err(ReadingError::Short) => self.refuse_short(report),
             Err(error) => self.refuse(&format!("{error:?}")),
-            Ok(reading) if self.last.is_some() => self.tell_changes(reading.id(), report),
-            Ok(reading) if self.json => match json::buffered(self.reader, (self.kind, report), reading.clone()) {
-                Err(error) => self.refuse(&format!("{error:?}")),
-                Ok(buffered) => json::put_report(self.reader, reading, &buffered, &mut self.names, &mut self.out),
-            },
-            Ok(reading) => {
-                self.line.clear();
-                put_number(&mut self.line, reading.id().into());
-                let rest = reading.rest().len();
-                for value in reading {
-                    if let Err(error) = self.put_value(report, &value) {
-                        return self.refuse(&format!("{error:?}"));
-                    }
-                }
-                if rest > 0 {
-                    self.line.extend_from_slice(b" and ");
-                    put_number(&mut self.line, rest as i64);
-                    self.line.extend_from_slice(b" more");
-                }
-                self.line.push(b'\n');
-                self.out.write_all(&self.line)
-            }
+            Ok(()) => self.out.write_all(&self.line),
         }
+    }
+
+    /// Puts the line of a report.
+    fn put_reading(&mut self, report: &[u8], reading: Reading<'_>) -> Result<(), ReadingError> {
+        self.line.clear();
+        put_number(&mut self.line, reading.id().into());
+        let rest = reading.rest().len();
+        for value in reading {
+            self.put_value(report, &value)?;
+        }
+        if rest > 0 {
+            self.line.extend_from_slice(b" and ");
+            put_number(&mut self.line, rest as i64);
+            self.line.extend_from_slice(b" more");
+        }
+        self.line.push(b'\n');
+        Ok(())
+    }
+
+    /// Tells a report as an object of JSON.
+    fn tell_object(&mut self, report: &[u8], reading: Reading<'_>) -> io::Result<()> {
+        self.line.clear();
+        let head = report_json::put_head(&mut self.line, (self.reader, &mut self.names), (self.kind, report), reading.clone());
+        match head {
+            Err(error) => self.refuse(&format!("{error:?}")),
+            Ok(()) => report_json::put_values(&mut self.line, (self.reader, &mut self.names), reading, &mut self.out),
+        }
+    }
+
+    /// Says that a report is too short, and how long it is to be.
+    fn refuse_short(&mut self, report: &[u8]) -> io::Result<()> {
+        let (found, needed) = (report.len(), length_at(self.reader, self.kind, report));
+        self.say(&format!("{} {}: the report has {found} of its {needed} bytes", self.numbered, self.number));
+        self.refuse_with("Short", Some((found, needed)))
     }
 
     /// Says that a report or line is refused, and goes on.
     fn refuse(&mut self, name: &str) -> io::Result<()> {
+        self.refuse_with(name, None)
+    }
+
+    fn refuse_with(&mut self, name: &str, lengths: Option<(usize, usize)>) -> io::Result<()> {
         self.refused = true;
         if self.json {
-            return writeln!(self.out, "{}", json::refused(name));
+            return writeln!(self.out, "{}", json::refused(name, lengths));
         }
         writeln!(self.out, "fault {name} at {}", self.number)
     }
 
+    /// Says a sentence about the reports on standard error.
+    fn say(&self, sentence: &str) {
+        tell(&format!("{}{sentence}", files::named(self.path)));
+    }
+
     /// Tells a line: hex digits, a line of usbmon with its data behind an equals sign, or one of a recording.
-    fn tell_line(&mut self, line: &[u8]) -> io::Result<()> {
+    fn tell_line(&mut self, line: &[u8]) -> Result<(), Ended> {
         self.number += 1;
+        let line = if self.number == 1 && Mark::of(line) == Some(Mark::Utf8) { &line[3..] } else { line };
         let is_asked = self.kind == Kind::Input;
         match line_of(line.trim_ascii_end()) {
             Some(Line::Block(holds_report)) => {
@@ -214,13 +218,13 @@ impl<W: Write> Teller<'_, W> {
                 self.block = Some(Block { number: self.number, report: (holds_report && is_asked).then(Vec::new) });
                 Ok(())
             }
-            Some(Line::Report(report)) if is_asked => self.tell(&report),
+            Some(Line::Report(report)) if is_asked => Ok(self.tell(&report)?),
             Some(Line::Damaged(fault)) if is_asked => {
-                tell(&sentences::of_event(self.number, line, fault));
-                self.refuse("Event")
+                self.say(&sentences::of_event(self.number, line, fault));
+                Ok(self.refuse("Event")?)
             }
             Some(_) => Ok(()),
-            None if self.block.is_some() => self.take_of_block(line),
+            None if self.block.is_some() => Ok(self.take_of_block(line)?),
             None => self.tell_plain(line),
         }
     }
@@ -252,50 +256,32 @@ impl<W: Write> Teller<'_, W> {
         told
     }
 
-    fn tell_plain(&mut self, line: &[u8]) -> io::Result<()> {
-        let is_other = is_usbmon(line) && !holds_report(line, self.kind);
+    fn tell_plain(&mut self, line: &[u8]) -> Result<(), Ended> {
+        let is_other = usbmon::is_line(line) && !(usbmon::holds_report(line, self.kind) && self.is_of_address(line)?);
         let behind = line.windows(3).position(|three| three == b" = ").map_or(0, |at| at + 3);
         let data = line[behind..].trim_ascii();
         if is_other || data.is_empty() || data.starts_with(b"#") {
             return Ok(());
         }
-        match bytes_of(data) {
+        Ok(match bytes_of(data) {
             Some(report) => self.tell(&report),
             None => self.refuse("Hex"),
+        }?)
+    }
+
+    /// Whether a packet of usbmon is of the address that is asked for. Without one, that is the first; another one is refused.
+    fn is_of_address(&mut self, line: &[u8]) -> Result<bool, Ended> {
+        let Some(found) = Address::of(line) else { return Ok(self.asked.is_none()) };
+        if self.asked.is_some_and(|asked| asked.meet(found).is_none()) {
+            return Ok(false);
         }
-    }
-}
-
-/// The words of a line of usbmon as text: a tag, a time, the event, the address, and what follows.
-fn words_of(line: &[u8]) -> impl Iterator<Item = &[u8]> {
-    line.split(|byte| byte.is_ascii_whitespace()).filter(|word| !word.is_empty())
-}
-
-/// Whether a line is one of usbmon (Linux, Documentation/usb/usbmon.rst): its third word is an event, and its fourth an address.
-fn is_usbmon(line: &[u8]) -> bool {
-    if !line.contains(&b':') {
-        return false;
-    }
-    let mut behind = words_of(line).skip(2);
-    let event = matches!(behind.next(), Some(b"S" | b"C" | b"E"));
-    event && matches!(behind.next(), Some([b'C' | b'Z' | b'I' | b'B', b'i' | b'o', b':', ..]))
-}
-
-/// Whether it holds a report of a kind: of an interrupt endpoint, or of a SET_REPORT (HID 1.11, 7.2.2).
-fn holds_report(line: &[u8], kind: Kind) -> bool {
-    if !line.windows(3).any(|three| three == b" = ") {
-        return false;
-    }
-    let is_set = |high: &[u8]| {
-        let setup: Vec<&[u8]> = words_of(line).skip(4).take(4).collect();
-        matches!(setup.as_slice(), [b"s", b"21", b"09", value] if value.starts_with(high))
-    };
-    match (words_of(line).nth(3).and_then(|address| address.get(..2)), kind) {
-        (Some(b"Ii"), kind) => kind == Kind::Input,
-        (Some(b"Io"), kind) => kind == Kind::Output,
-        (Some(b"Co"), Kind::Output) => is_set(b"02"),
-        (Some(b"Co"), Kind::Feature) => is_set(b"03"),
-        _ => false,
+        let first = *self.found.get_or_insert(found);
+        self.found = first.meet(found);
+        if self.found.is_some() {
+            return Ok(true);
+        }
+        let sentence = format!("line {}: a packet of {found} behind those of {first}; --address chooses one", self.number);
+        Err(Ended::fault("fault address", sentence).of(self.path))
     }
 }
 
@@ -306,7 +292,7 @@ fn lines(from: &mut dyn Read, teller: &mut Teller<'_, impl Write>) -> Result<(),
     let mut too_long = false;
     loop {
         teller.out.flush()?;
-        let len = read_some(from, &mut piece)?;
+        let len = read_some(from, &mut piece, teller.path)?;
         if len == 0 {
             break;
         }
@@ -327,7 +313,7 @@ fn lines(from: &mut dyn Read, teller: &mut Teller<'_, impl Write>) -> Result<(),
     Ok(teller.end_block()?)
 }
 
-fn end_line(teller: &mut Teller<'_, impl Write>, kept: &mut Vec<u8>, too_long: &mut bool) -> io::Result<()> {
+fn end_line(teller: &mut Teller<'_, impl Write>, kept: &mut Vec<u8>, too_long: &mut bool) -> Result<(), Ended> {
     if std::mem::take(too_long) {
         teller.number += 1;
         teller.refuse("LongLine")?;
@@ -338,12 +324,12 @@ fn end_line(teller: &mut Teller<'_, impl Write>, kept: &mut Vec<u8>, too_long: &
     Ok(())
 }
 
-fn read_some(from: &mut dyn Read, piece: &mut [u8]) -> Result<usize, Ended> {
+fn read_some(from: &mut dyn Read, piece: &mut [u8], path: Option<&OsString>) -> Result<usize, Ended> {
     loop {
         match from.read(piece) {
             Ok(len) => return Ok(len),
             Err(error) if error.kind() == io::ErrorKind::Interrupted => {}
-            Err(error) => return Err(Ended::fault("fault input", format!("the reports can't be read: {error}"))),
+            Err(error) => return Err(Ended::fault("fault input", format!("the reports can't be read: {error}")).of(path)),
         }
     }
 }
@@ -361,7 +347,7 @@ fn raw(from: &mut dyn Read, is_device: bool, teller: &mut Teller<'_, impl Write>
     let (mut kept, mut left): (Vec<u8>, usize) = (Vec::new(), 0);
     loop {
         teller.out.flush()?;
-        let len = read_some(from, &mut piece)?;
+        let len = read_some(from, &mut piece, teller.path)?;
         if len == 0 {
             break;
         }
@@ -418,17 +404,22 @@ pub fn kind_of(given: &ArgMatches) -> Kind {
 }
 
 /// What tells reports as it is asked for.
-fn teller<'a>(given: &ArgMatches, reader: &'a Reader) -> io::Result<Teller<'a, impl Write>> {
+fn teller<'a>(given: &ArgMatches, reader: &'a Reader, path: Option<&'a OsString>) -> io::Result<Teller<'a, impl Write>> {
+    let is_json = given.get_flag("json");
     Ok(Teller {
         reader,
         kind: kind_of(given),
+        path,
+        numbered: if given.get_flag("raw") || given.get_flag("live") { "report" } else { "line" },
+        asked: None,
+        found: None,
         names_usages: given.get_flag("names"),
-        json: given.get_flag("json"),
+        json: is_json,
         last: given.get_flag("changes").then(HashMap::new),
         out: io::BufWriter::new(files::output()?),
         number: 0,
         refused: false,
-        names: Names::default(),
+        names: Names::new(is_json),
         line: Vec::new(),
         block: None,
     })
@@ -440,12 +431,23 @@ pub fn read(given: &ArgMatches) -> Result<ExitCode, Ended> {
     Ok(if refused { ExitCode::FAILURE } else { ExitCode::SUCCESS })
 }
 
+/// The reader of the descriptor that is given. The faults that are passed over are told before.
+fn reader_of(path: Option<&OsString>, bytes: Vec<u8>, given: &ArgMatches) -> Result<Reader, Ended> {
+    let descriptor = Descriptor::new(path, bytes, given.get_flag("lenient"))?;
+    if !given.get_flag("json") {
+        descriptor.put_passed(&mut files::output()?)?;
+    } else if descriptor.checked().is_ok() && descriptor.passed().next().is_some() {
+        writeln!(files::output()?, "{}", json::passed_alone(&descriptor))?;
+    }
+    descriptor.reader()
+}
+
 /// Tells the reports of a device of hidraw, as they come.
 fn read_live(given: &ArgMatches) -> Result<bool, Ended> {
-    let path = given.get_one::<OsString>("descriptor").expect("it is required");
-    let (mut from, is_device, text) = files::live(path)?;
-    let reader = reader_of(&lenient_of(text, given, &mut files::output()?)?)?;
-    let mut teller = teller(given, &reader)?;
+    let path = given.get_one::<OsString>("descriptor");
+    let (mut from, is_device, text) = files::live(path.expect("it is required"))?;
+    let reader = reader_of(path, text, given)?;
+    let mut teller = teller(given, &reader, path)?;
     raw(&mut from, is_device, &mut teller)?;
     teller.out.flush()?;
     Ok(teller.refused)
@@ -453,20 +455,29 @@ fn read_live(given: &ArgMatches) -> Result<bool, Ended> {
 
 fn read_reports(given: &ArgMatches) -> Result<bool, Ended> {
     let path = |name| given.get_one::<OsString>(name);
+    let (of_descriptor, of_reports) = (path("descriptor"), path("reports"));
     let (form, is_raw) = (form_of(given, None), given.get_flag("raw"));
+    let asked = given.get_one::<String>("address").map(|word| Address::read(word)).transpose();
+    let asked = asked.map_err(|why| words::refused("read", why))?;
     // (A recording without REPORTS has its own.)
-    let has_own = |form: Form| form.is_recording() && path("reports").is_none() && !is_raw;
-    if files::is_input(path("descriptor")) && files::is_input(path("reports")) && !form.is_some_and(has_own) {
+    let has_own = |form: Form| form.is_recording() && of_reports.is_none() && !is_raw;
+    if files::is_input(of_descriptor) && files::is_input(of_reports) && !form.is_some_and(has_own) {
         return Err(words::refused("read", "standard input can't be both, the descriptor and the reports").into());
     }
-    let text = files::text_of(path("descriptor"), "text")?;
-    let (form, bytes) = bytes_in(&text, form)?;
-    let reader = reader_of(&lenient_of(bytes, given, &mut files::output()?)?)?;
-    let mut teller = teller(given, &reader)?;
+    let (text, is_cut) = files::start_of(of_descriptor, "text")?;
+    let read = bytes_in(&text, form).map_err(|ended| ended.of(of_descriptor));
+    // (Of a recording beside its reports the start is enough.)
+    if is_cut && !read.as_ref().is_ok_and(|(form, _)| form.is_recording() && !has_own(*form)) {
+        return Err(files::too_long(of_descriptor, "text"));
+    }
+    let (form, bytes) = read?;
+    let reader = reader_of(of_descriptor, bytes, given)?;
+    let mut teller = teller(given, &reader, if has_own(form) { of_descriptor } else { of_reports })?;
+    teller.asked = asked;
     if has_own(form) {
         lines(&mut text.as_slice(), &mut teller)?;
     } else {
-        let (mut from, is_device) = files::opened(path("reports"))?;
+        let (mut from, is_device) = files::opened(of_reports)?;
         if is_raw { raw(&mut from, is_device, &mut teller) } else { lines(&mut from, &mut teller) }?;
     }
     teller.out.flush()?;

@@ -15,7 +15,7 @@ pub fn run(given: &ArgMatches) -> Result<(), Ended> {
     let path = |name| given.get_one::<OsString>(name);
     let flash = flash_of(path("image"), given.get_one("pages").copied().unwrap_or(2))?;
     let text = text_of(path("file"), "script")?;
-    let flash = run_text(flash, &text, given.get_flag("explain"))?;
+    let flash = run_text(flash, &text, path("file"), given.get_flag("explain"))?;
     match path("save").map(|path| save::save(Path::new(path), flash.image())) {
         Some(Err(why)) => Err(Ended::Said(format!("error: the flash can't be saved: {why}"))),
         _ => Ok(()),
@@ -34,12 +34,12 @@ fn flash_of(image: Option<&OsString>, pages: u8) -> Result<SimFlash, Ended> {
             RunError::Input => "fault input",
             _ => "fault memory",
         };
-        Ended::fault(line, error.to_string())
+        Ended::fault(line, error.to_string()).of(image)
     })
 }
 
 /// Runs a script on a flash.
-fn run_text(flash: SimFlash, mut text: &[u8], explain: bool) -> Result<SimFlash, Ended> {
+fn run_text(flash: SimFlash, mut text: &[u8], path: Option<&OsString>, explain: bool) -> Result<SimFlash, Ended> {
     let (pages, script, mut out) = (flash.image().len() / 4096, text, output()?);
     let ended = if explain {
         let mut explainer = Explainer::new(&flash, StandardError);
@@ -49,7 +49,7 @@ fn run_text(flash: SimFlash, mut text: &[u8], explain: bool) -> Result<SimFlash,
     };
     ended.map_err(|error| match error {
         RunError::Output => Ended::Output,
-        RunError::Line { line, .. } => Ended::Said(sentences::of_line(pages, script, line).unwrap_or_default()),
+        RunError::Line { line, .. } => Ended::Said(sentences::of_line(pages, script, line).unwrap_or_default()).of(path),
         _ => Ended::Said(error.to_string()),
     })
 }

@@ -3,7 +3,7 @@
 
 use super::items::fault_words;
 use kbsim::parts::script::{Complaint, KEYWORDS, Keyword, Wanted, what_is_wrong};
-use kbsim::texts::{Fault, Why, shown};
+use kbsim::texts::{Fault, Mark, Why, shown};
 use wuzhikar_reader::ParseError;
 
 /// The words of scripts.
@@ -18,6 +18,9 @@ const LONGEST: usize = 18;
 
 /// What is wrong with the line of this number of a script for a flash of so many pages.
 pub fn of_line(pages: usize, text: &[u8], number: usize) -> Option<String> {
+    if let Some(mark) = Mark::of(text).filter(|_| number == 1) {
+        return Some(format!("line 1: {mark}"));
+    }
     Some(match what_is_wrong(pages, text, number)? {
         Complaint::Unknown(word) => format!("line {number}: {} is no line of scripts; {}", shown(word), meant(word)),
         Complaint::Words(keyword, count) => {
@@ -93,7 +96,7 @@ fn words_of(wanted: Wanted) -> (&'static str, Option<&'static str>) {
 
 /// Why a text does not say a report descriptor.
 pub fn of_text(text: &[u8], fault: Fault) -> String {
-    let more = if fault.why == Why::Ambiguous { "; --from says which" } else { "" };
+    let more = if let Why::Ambiguous(..) = fault.why { "; --from says which" } else { "" };
     fault.sentence(text) + more
 }
 

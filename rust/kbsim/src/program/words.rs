@@ -65,7 +65,7 @@ fn parse() -> Command {
             .conflicts_with_all(["details", "json"]),
         flag("details", "Prints a tree of collections and items, in words").conflicts_with("json"),
         flag("json", "Prints a JSON object"),
-        lenient(["items", "json"]),
+        lenient(),
         text(),
     ])
 }
@@ -78,7 +78,12 @@ fn read() -> Command {
         flag("raw", "The reports are bytes, and not lines"),
         flag("live", "DESCRIPTOR is a hidraw device, of which the descriptor and the reports are read")
             .conflicts_with_all(["raw", "kind", "from", "reports"]),
-        lenient(["json"]),
+        lenient(),
+        Arg::new("address")
+            .long("address")
+            .value_name("ADDRESS")
+            .conflicts_with_all(["raw", "live"])
+            .help("The packets of usbmon that are read, as BUS:DEVICE or BUS:DEVICE:ENDPOINT"),
         kind("The kind of the reports").default_value("input"),
         form(LOOKED_AT),
         descriptor(),
@@ -121,9 +126,8 @@ fn descriptor() -> Arg {
     file("descriptor", "The file of a report descriptor, or - for standard input").value_name("DESCRIPTOR").required(true)
 }
 
-fn lenient<const N: usize>(others: [&'static str; N]) -> Arg {
+fn lenient() -> Arg {
     flag("lenient", "Reads on past faults of the descriptor that Linux passes over, with a line for each")
-        .conflicts_with_all(others)
 }
 
 fn form(help: &'static str) -> Arg {

@@ -2,13 +2,13 @@
 
 use super::ends::Ended;
 use super::read::kind_of;
-use super::texts::{bytes_of, reader_given};
+use super::texts::{bytes_of, descriptor_of};
 use super::{files, words};
 use clap::ArgMatches;
 use std::ffi::OsString;
 use std::io::Write;
 use std::str::FromStr;
-use wuzhikar_hid::{Asked, Kind, NoValue, Reader, Setting, Target, WriteError, usages_named};
+use wuzhikar_hid::{Asked, Kind, NoValue, Reader, Setting, Target, UsageName, WriteError, usages_named};
 
 /// The most bytes that a control transfer has (USB 2.0, section 9.3.5).
 const LONGEST: usize = 65_535;
@@ -86,6 +86,13 @@ fn number<N: FromStr>(word: &str) -> Option<N> {
     if word.starts_with('+') { None } else { word.parse().ok() }
 }
 
+/// The most controls of a report that a sentence lists, and of whose names one may be meant.
+const MOST_LISTED: usize = 32;
+const MOST_MEANT: usize = 4_096;
+
+/// The longest name that may be meant for another one.
+const LONGEST_NAME: usize = 64;
+
 /// What is written: the descriptor's reader, and which of its reports.
 struct Report {
     reader: Reader,
@@ -117,13 +124,13 @@ impl Report {
                 return Err(Ended::fault(format!("fault write Ambiguous {number}"), sentence));
             }
         }
-        found.ok_or_else(|| told(WriteError::Unknown(number)))
+        found.ok_or_else(|| self.told(WriteError::Unknown(number)))
     }
 
     /// The value of a control that is so much in its unit.
     fn of_unit(&self, number: usize, target: Target, above: i64, below: u64) -> Result<i64, Ended> {
-        let field = self.field_of(target)?.ok_or_else(|| told(WriteError::Unknown(number)))?;
-        let detail = self.reader.detail(field).ok_or_else(|| told(WriteError::Unknown(number)))?;
+        let field = self.field_of(target)?.ok_or_else(|| self.told(WriteError::Unknown(number)))?;
+        let detail = self.reader.detail(field).ok_or_else(|| self.told(WriteError::Unknown(number)))?;
         detail.value_of(above, below).map_err(|why| {
             let name = match why {
                 NoValue::NoPhysical(why) => format!("{why:?}"),
@@ -136,6 +143,60 @@ impl Report {
     fn field_of(&self, target: Target) -> Result<Option<usize>, Ended> {
         self.reader.field_of(self.kind, self.id, target).map_err(|_| Ended::memory())
     }
+
+    /// A refusal with its name, as `OutOfRange`, and the number of the setting or field behind it. Of what is not there, what is
+    /// there is said.
+    fn told(&self, why: WriteError) -> Ended {
+        let more = match why {
+            WriteError::UnknownReport => format!("; it has {}", self.reports()),
+            WriteError::Unknown(_) => format!("; it has {}", self.controls()),
+            _ => String::new(),
+        };
+        Ended::fault(format!("fault write {why:?}").replace('(', " ").replace(')', ""), format!("error: {why}{more}"))
+    }
+
+    /// The reports of the descriptor.
+    fn reports(&self) -> String {
+        let all = self.reader.details().reports();
+        listed(all.map(|report| format!("--kind {} {}", format!("{:?}", report.kind).to_lowercase(), report.id)))
+    }
+
+    /// The controls of the report.
+    fn controls(&self) -> String {
+        let descriptor = self.reader.descriptor();
+        let own = (0..).zip(descriptor.fields()).filter(|(_, field)| (field.kind, field.id) == (self.kind, self.id));
+        listed(own.flat_map(|(place, field)| match descriptor.ranges(place) {
+            [] => vec![if field.count == 1 {
+                format!("f{place}")
+            } else {
+                format!("f{place}[0] to f{place}[{}]", field.count - 1)
+            }],
+            ranges => ranges.iter().map(|(first, last)| named(*first, *last)).collect(),
+        }))
+    }
+
+    /// The name of a control that may be meant by a word: the one that takes the fewest edits to come to, at most a third as many
+    /// as the word has letters.
+    fn meant(&self, word: &str) -> Option<String> {
+        let control = word.rsplit_once('=')?.0.split('[').next().filter(|name| name.len() <= LONGEST_NAME)?.to_lowercase();
+        let usages = self.reader.descriptor().report(self.kind, self.id).flat_map(|field| field.usages());
+        let names = usages.take(MOST_MEANT).map(|usage| UsageName(usage).to_string());
+        let near = names.map(|name| (strsim::levenshtein(&control, &name.to_lowercase()), name));
+        near.filter(|(edits, _)| *edits <= control.len() / 3).min_by_key(|(edits, _)| *edits).map(|(_, name)| name)
+    }
+}
+
+/// A range of usages by their names.
+fn named(first: u32, last: u32) -> String {
+    let more = if first == last { String::new() } else { format!(" to \"{}\"", UsageName(last)) };
+    format!("\"{}\"{more}", UsageName(first))
+}
+
+/// What there is, in a sentence.
+fn listed(mut all: impl Iterator<Item = String>) -> String {
+    let listed: Vec<String> = all.by_ref().take(MOST_LISTED).collect();
+    let more = if all.next().is_some() { " .." } else { "" };
+    if listed.is_empty() { "none".into() } else { listed.join(", ") + more }
 }
 
 /// Prints the report in hex.
@@ -147,29 +208,29 @@ pub fn write(given: &ArgMatches) -> Result<(), Ended> {
         Some(text) => Some(bytes_of(text.as_bytes()).ok_or_else(|| refused(format!("{text} is not pairs of hex digits")))?),
         None => None,
     };
-    let is_none = |word: &String| format!("{word} is no setting: {EXAMPLES}");
+    let report = || {
+        let reader = descriptor_of(given.get_one::<OsString>("descriptor"), given)?.reader()?;
+        Ok::<Report, Ended>(Report { reader, kind: kind_of(given), id })
+    };
     let settings = given.get_many::<String>("settings").unwrap_or_default();
-    let settings = settings.map(|word| setting(word).ok_or_else(|| refused(is_none(word)))).collect::<Result<Vec<_>, _>>()?;
+    let settings: Result<Vec<_>, _> = settings.map(|word| setting(word).ok_or(word)).collect();
+    let settings = settings.map_err(|word| {
+        let meant = report().ok().and_then(|report| report.meant(word));
+        let more = meant.map_or_else(|| format!(": {EXAMPLES}"), |name| format!("; \"{name}\" is there"));
+        refused(format!("{word} is no setting{more}"))
+    })?;
 
-    let report = Report { reader: reader_given(given.get_one::<OsString>("descriptor"), given)?, kind: kind_of(given), id };
-    let Report { reader, kind, .. } = &report;
-    match reader.descriptor().report_len(*kind, id) {
-        None => return Err(told(WriteError::UnknownReport)),
+    let report = report()?;
+    match report.reader.descriptor().report_len(report.kind, id) {
+        None => return Err(report.told(WriteError::UnknownReport)),
         Some(length) if length > LONGEST => {
             let sentence = format!("error: the report has {length} bytes, and a transfer at most {LONGEST}");
             return Err(Ended::fault("fault write TooLong", sentence));
         }
         Some(_) => {}
     }
-    let settled = (0..).zip(settings).map(|(number, setting)| report.settled(number, setting));
-    let written = match settled.collect::<Result<Vec<_>, _>>() {
-        Err(ended) => return Err(ended),
-        Ok(settings) => reader.write(*kind, id, &settings, onto.as_deref()).map_err(told)?,
-    };
+    let settled =
+        (0..).zip(settings).map(|(number, setting)| report.settled(number, setting)).collect::<Result<Vec<_>, _>>()?;
+    let written = report.reader.write(report.kind, id, &settled, onto.as_deref()).map_err(|why| report.told(why))?;
     Ok(writeln!(files::output()?, "{}", hex::encode(written))?)
-}
-
-/// A refusal with its name, as `OutOfRange`, and the number of the setting or field behind it.
-fn told(why: WriteError) -> Ended {
-    Ended::fault(format!("fault write {why:?}").replace('(', " ").replace(')', ""), format!("error: {why}"))
 }

@@ -124,3 +124,12 @@ fn names_of_as_many_items_as_there_can_be() {
     assert!((0..2046).all(|number| last.collection_designators(number).is_empty()));
     assert_eq!(last.collection_designators(2046), [(7, 7)]);
 }
+
+/// A bit whose byte a `usize` of 32 bits does not count: it is none, and not one at the start.
+#[test]
+fn a_bit_beyond_the_bytes_of_32_bits() {
+    let mut bytes = [0x55; 2];
+    wuzhikar_hid::parts::field_values::put_number(&mut bytes, 1 << 35, 8, 0xAA);
+    assert_eq!(bytes, [0x55; 2]);
+    assert_eq!(wuzhikar_reader::parts::host_extract::number_at(&bytes, 1 << 35, 8), 0);
+}

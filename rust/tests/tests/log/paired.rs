@@ -1,5 +1,5 @@
 //! Slots in two units of a flash with error correction: units that refuse, that are torn, and cuts inside a program. Torn cells
-//! are drawn by `tools/keyboard-cuts` and `tests/settings-test`.
+//! are drawn by `tests/power-losses`.
 
 use proptest::collection::vec;
 use proptest::prelude::*;

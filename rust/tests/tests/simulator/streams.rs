@@ -1,6 +1,6 @@
 //! Readers and writers that fail, and how many writes there are.
 
-use kbsim::{LinesError, RunError, image_flash, parse_text, print_fault, run_script};
+use kbsim::{LinesError, RunError, blank_flash, describe, image_flash, parse_text, print_fault, run_on, run_script};
 use std::io::{self, ErrorKind, Read, Write};
 
 /// Gives a text in pieces of so many bytes, and fails so after so many reads.
@@ -138,5 +138,50 @@ fn few_writes_and_none_after_one_that_failed() {
         assert_eq!(parse_text(&mut text.as_bytes(), &mut writer), Err(LinesError::Output));
         assert_eq!(writer.writes, fails_at + 1);
         assert!(whole.taken.starts_with(&writer.taken));
+    }
+}
+
+/// A writer whose bytes never arrive.
+struct NeverFlushed;
+
+impl Write for NeverFlushed {
+    fn write(&mut self, bytes: &[u8]) -> io::Result<usize> {
+        Ok(bytes.len())
+    }
+
+    fn flush(&mut self) -> io::Result<()> {
+        Err(ErrorKind::Other.into())
+    }
+}
+
+#[test]
+fn a_writer_that_does_not_flush() {
+    let script = "entry 0 0\nset 0 0 0005\n";
+    assert_eq!(run_script(2, &mut script.as_bytes(), &mut NeverFlushed), Err(RunError::Output));
+    let flash = blank_flash(2).unwrap();
+    assert_eq!(run_on(flash, &mut script.as_bytes(), &mut NeverFlushed).err(), Some(RunError::Output));
+    assert_eq!(print_fault(RunError::Image, &mut NeverFlushed), RunError::Output);
+    assert_eq!(parse_text(&mut "75 01".as_bytes(), &mut NeverFlushed), Err(LinesError::Output));
+    assert_eq!(describe(&mut NeverFlushed), Err(LinesError::Output));
+}
+
+/// What is too long is told before the fault of the reader that comes behind it.
+#[test]
+fn the_longest_texts_of_a_reader_that_fails() {
+    for (length, of_script, of_text, line) in [
+        (1_048_576, RunError::Input, LinesError::Input, "fault input\n"),
+        (1_048_577, RunError::TooLong, LinesError::TooLong, "fault too long\n"),
+    ] {
+        for (byte, is_script) in [(b'#', true), (b'0', false)] {
+            let (text, mut printed) = (&*vec![byte; length], Vec::new());
+            let fails = FailingReader { text: &[], most: 0, reads_left: 0, kind: ErrorKind::Other };
+            let mut reader = text.chain(fails);
+            if is_script {
+                assert_eq!(run_script(2, &mut reader, &mut printed), Err(of_script));
+            } else {
+                assert_eq!(parse_text(&mut reader, &mut printed), Err(of_text));
+            }
+            assert_eq!(printed, line.as_bytes());
+        }
     }
 }

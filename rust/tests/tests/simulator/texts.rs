@@ -1,6 +1,6 @@
 //! Texts of descriptors: each form of the same bytes reads the same, and no text takes a panic, much memory or much time.
 
-use kbsim::texts::{Form, MOST, taken};
+use kbsim::texts::{Form, MOST, Why, taken};
 use proptest::prelude::*;
 use std::time::{Duration, Instant};
 
@@ -53,6 +53,8 @@ fn texts(bytes: &[u8], group: usize, width: usize) -> Vec<(Form, String)> {
         (Form::Hex, joined(bytes, "", " ")),
         (Form::C, format!("unsigned char d[] = {{\n  {list}\n}};\nunsigned int d_len = {};\n", bytes.len())),
         (Form::Rust, format!("#[rustfmt::skip]\npub const D: [u8; {}] = [ // {{0}}\n    {list}];\n", bytes.len())),
+        (Form::C, format!("#include \"a/b.h\"\nint f(int a) {{ return a; }} // \u{2014}\nconst uint8_t d[] = {{ {list} }};\n")),
+        (Form::Rust, format!("#![no_std]\nfn f(a: [u8; 2]) -> u8 {{ a[1] }}\nconst D: &[u8] = &[{list}];\nfn g() {{ 3 }}\n")),
         (Form::Xxd, xxd(bytes, group, width)),
         (Form::Hexdump, hexdump(bytes)),
         (Form::Rdesc, format!("{} \n\n  INPUT(1)[INPUT]\n    Field(0)\n\nKey.A ---> Key.B\n", joined(bytes, "", " "))),
@@ -61,42 +63,50 @@ fn texts(bytes: &[u8], group: usize, width: usize) -> Vec<(Form, String)> {
     ]
 }
 
+/// What forms of texts are told by.
+const MARKS: [&str; 38] = [
+    "00000000: ",
+    "00000000  ",
+    "000000 ",
+    "00000010",
+    "*\n",
+    "R: ",
+    "R: 2 05 01\n",
+    "E: 0.0 ",
+    "D: 0\n",
+    "1:2:3:STREAM 1\n",
+    "1:2:3:DESCRIPTOR 1\n",
+    " INPUT[",
+    "|..|\n",
+    "\n\n",
+    "/*",
+    "*/",
+    "//",
+    "0x",
+    "{",
+    "}",
+    "#[",
+    "[",
+    "]",
+    "=",
+    ": ",
+    ", ",
+    "u8",
+    "_",
+    "  ",
+    "\r\n",
+    "\u{e4}",
+    "\u{1}",
+    "\u{feff}",
+    "\"",
+    "r#\"",
+    "'",
+    "\\",
+    "#!",
+];
+
 /// Pieces of texts of which others are put together.
 fn piece() -> impl Strategy<Value = String> {
-    const MARKS: [&str; 32] = [
-        "00000000: ",
-        "00000000  ",
-        "000000 ",
-        "00000010",
-        "*\n",
-        "R: ",
-        "R: 2 05 01\n",
-        "E: 0.0 ",
-        "D: 0\n",
-        "1:2:3:STREAM 1\n",
-        "1:2:3:DESCRIPTOR 1\n",
-        " INPUT[",
-        "|..|\n",
-        "\n\n",
-        "/*",
-        "*/",
-        "//",
-        "0x",
-        "{",
-        "}",
-        "#[",
-        "[",
-        "]",
-        "=",
-        ": ",
-        ", ",
-        "u8",
-        "_",
-        "  ",
-        "\r\n",
-        "\u{e4}",
-        "\u{1}",
-    ];
     prop_oneof![prop::sample::select(&MARKS[..]).prop_map(String::from), "[0-9a-f ]{1,20}", "[\\x20-\\x7f]{1,4}"]
 }
 
@@ -113,6 +123,12 @@ proptest! {
         for (form, text) in texts(&bytes, group, width) {
             prop_assert_eq!(form.read(text.as_bytes()), Ok(bytes.clone()), "{}", text);
             prop_assert_eq!(taken(text.as_bytes()), Ok((form, bytes.clone())), "{}", text);
+            let marked = format!("\u{feff}{text}");
+            prop_assert_eq!(taken(marked.as_bytes()), Ok((form, bytes.clone())), "{}", text);
+            let wide: Vec<u8> = text.encode_utf16().flat_map(u16::to_le_bytes).collect();
+            if text.is_ascii() && text.len() > 1 {
+                prop_assert!(taken(&wide).is_err_and(|(_, fault)| fault.why == Why::Utf16), "{}", text);
+            }
         }
         prop_assert_eq!(Form::Loose.read(joined(&bytes, "0x", " /* */ ").as_bytes()), Ok(bytes.clone()));
         prop_assert_eq!(Form::Bytes.read(&bytes), Ok(bytes));
@@ -177,6 +193,16 @@ fn the_longest_texts_take_no_long_time() {
         "=",
         "\u{e4}",
         "D: 0\n",
+        "[1,",
+        "a[0,",
+        "[]",
+        "= {",
+        "\"",
+        "\\\"",
+        "r#\"",
+        "#\"",
+        "'",
+        "#\\\n",
     ];
     for (start, part) in starts.iter().flat_map(|start| parts.map(|part| (start, part))) {
         let text = format!("{start}{}", part.repeat(MOST / part.len()));

@@ -1,16 +1,17 @@
 //! The driver over registers that are played: the chip counts no toggles and leaves its buffers at a SETUP packet and at a reset,
 //! and at any access something may come on the bus, behind which the interrupt runs.
 
-#[path = "../tests/played_host.rs"]
-mod played_host;
+#[path = "../../../tests/src/other.rs"]
+mod other;
 
 use super::*;
-use played_host::host::Numbers;
-use played_host::{Answer, OnWire, Run, Wire, histories, history};
+use other::Other;
 use std::cell::RefCell;
 use std::collections::HashMap;
-
-const GET_STATUS: [u8; 8] = [0x80, 0, 0, 0, 0, 0, 2, 0];
+use std::convert::Infallible;
+use wuzhikar_device::testing::{self, Answer, Firmware, OnWire, UsbOf, Wire};
+use wuzhikar_device::{Identity, PacketSize, Product};
+use wuzhikar_log::{FlashDriver, PairedFlash, UnitFlash};
 
 #[derive(Debug, Default)]
 struct Played {
@@ -130,6 +131,10 @@ impl Wire for Played {
         self.is_changed = true;
     }
 
+    fn address(&self) -> u8 {
+        self.word(ADDRESS) as u8
+    }
+
     fn wakes(&mut self) -> bool {
         std::mem::take(&mut self.woken)
     }
@@ -153,7 +158,7 @@ impl Played {
 }
 
 /// The registers beside the host, whom the interrupt follows.
-type Wired = RefCell<OnWire<Played>>;
+type Wired = testing::Wired<Played>;
 
 /// Something may come, and the interrupt runs where it is asked for.
 fn access(wire: &Wired) {
@@ -162,12 +167,11 @@ fn access(wire: &Wired) {
 }
 
 fn interrupts_run(wire: &Wired) {
-    let runs = !wire.borrow().masked && wire.borrow().registers.asked() != 0;
+    let runs = !wire.borrow().is_masked() && wire.borrow().registers.asked() != 0;
     if runs {
-        // It is over before anything else can come.
-        (wire.borrow_mut().masked, wire.borrow_mut().has_come) = (true, true);
+        wire.borrow_mut().begin_handler();
         interrupt(&wire);
-        OnWire::interrupts(&mut wire.borrow_mut(), true);
+        wire.borrow_mut().interrupts(true);
         interrupts_run(wire);
     }
 }
@@ -211,7 +215,7 @@ impl Registers for &Wired {
     }
 
     fn interrupts(&self, on: bool) {
-        OnWire::interrupts(&mut self.borrow_mut(), on);
+        self.borrow_mut().interrupts(on);
         interrupts_run(self);
     }
 
@@ -228,205 +232,22 @@ fn quiet() -> Wired {
     RefCell::new(OnWire::quiet(Played::default()))
 }
 
-fn setup_comes(played: &mut Played) -> bool {
-    played.setup(GET_STATUS)
-}
-
-fn reset_comes(played: &mut Played) -> bool {
-    played.reset();
-    true
-}
-
-/// Puts these answers into the buffers of endpoint 0, behind a SETUP packet.
-fn armed(usb: &mut Rp2040Usb<&Wired>, input: &Input, output: Output) {
-    usb.0.registers.borrow_mut().registers.setup([0; 8]);
-    assert_eq!(usb.waiting().setup, Some([0; 8]));
-    usb.input_0(copied(input));
-    usb.output_0(output);
-}
-
-fn copied(input: &Input) -> Input {
-    match input {
-        Input::Nak => Input::Nak,
-        Input::Stall => Input::Stall,
-        Input::Packet(packet) => Input::Packet(packet.clone()),
-    }
-}
-
-const OUTPUTS: [Output; 3] = [Output::Nak, Output::Stall, Output::Take];
-
-fn inputs() -> [Input; 3] {
-    [Input::Nak, Input::Stall, Input::Packet([1, 2].into_iter().collect())]
-}
-
-#[test]
-fn a_setup_packet_at_any_access_leaves_nothing_in_the_buffers() {
-    let mut places = 0;
-    for (number, before) in (0..9).flat_map(|number| (0..6).map(move |call| (number, call))) {
-        for at in 0.. {
-            let wire = quiet();
-            let rp2040 = Rp2040::start(&wire);
-            let mut usb = Rp2040Usb(&rp2040);
-            armed(&mut usb, &inputs()[number / 3], OUTPUTS[number % 3]);
-            wire.borrow_mut().comes = Some((at, setup_comes));
-            match before {
-                0..3 => usb.input_0(copied(&inputs()[before])),
-                _ => usb.output_0(OUTPUTS[before - 3]),
-            }
-            if wire.borrow().comes.is_some() {
-                break;
-            }
-            assert_eq!(wire.borrow_mut().registers.input(0), Answer::Nak, "at access {at}");
-            assert_eq!(wire.borrow_mut().registers.out(true, &[1]), Answer::Nak, "at access {at}");
-            assert!(!wire.borrow().masked);
-            assert_eq!(usb.waiting().setup, Some(GET_STATUS));
-            places += 1;
-        }
-    }
-    assert!(places >= 9 * 6 * 8, "{places}");
-}
-
-#[test]
-fn what_comes_at_any_access_is_told_once() {
-    for at in 0..40 {
-        let wire = quiet();
-        let rp2040 = Rp2040::start(&wire);
-        let mut usb = Rp2040Usb(&rp2040);
-        armed(&mut usb, &inputs()[2], Output::Take);
-        assert_eq!(wire.borrow_mut().registers.input(0), Answer::Packet(true, vec![1, 2]));
-        wire.borrow_mut().registers.acknowledged(0);
-        assert_eq!(wire.borrow_mut().registers.out(true, &[7]), Answer::Ack);
-        wire.borrow_mut().comes = Some((at, setup_comes));
-        let mut met = vec![usb.waiting(), usb.waiting()];
-        if wire.borrow().comes.is_none() {
-            met.push(usb.waiting());
-        }
-        assert_eq!(met.iter().filter(|met| met.taken).count(), 1);
-        assert_eq!(met[0].out.as_deref(), Some(&[7][..]));
-        let setups = met.iter().filter(|met| met.setup == Some(GET_STATUS)).count();
-        assert_eq!(setups, met.len() - 2, "{at}");
-    }
-}
-
-#[test]
-fn an_out_packet_that_comes_while_out_is_opened_again_is_told_as_it_was() {
-    for at in 0..40 {
-        let wire = quiet();
-        let rp2040 = Rp2040::start(&wire);
-        let mut usb = Rp2040Usb(&rp2040);
-        armed(&mut usb, &inputs()[2], Output::Take);
-        wire.borrow_mut().comes = Some((at, |played| played.out(true, &[7]) == Answer::Ack));
-        usb.output_0(Output::Take);
-        let came = wire.borrow_mut().comes.take().is_none();
-        let met = [usb.waiting(), usb.waiting()];
-        let told: Vec<_> = met.iter().filter_map(|met| met.out.as_deref()).collect();
-        assert_eq!(told, if came { vec![&[7][..]] } else { vec![] }, "at access {at}");
-    }
-}
-
 #[test]
 fn a_setup_packet_before_a_reset_is_gone() {
     for is_behind in [false, true] {
         let wire = quiet();
         let rp2040 = Rp2040::start(&wire);
-        let order: [fn(&mut Played) -> bool; 2] = [setup_comes, reset_comes];
-        for number in 0..2 {
-            order[usize::from((number == 1) != is_behind)](&mut wire.borrow_mut().registers);
+        for resets in [is_behind, !is_behind] {
+            if resets {
+                wire.borrow_mut().registers.reset();
+            } else {
+                wire.borrow_mut().registers.setup([0x80, 0, 0, 0, 0, 0, 2, 0]);
+            }
             interrupts_run(&wire);
         }
         let met = Rp2040Usb(&rp2040).waiting();
         assert_eq!((met.reset, met.setup.is_some()), (true, is_behind));
     }
-}
-
-#[test]
-fn a_packet_of_endpoint_1_is_taken_or_dropped() {
-    for at in 0..40 {
-        let wire = quiet();
-        let rp2040 = Rp2040::start(&wire);
-        let mut usb = Rp2040Usb(&rp2040);
-        usb.begin_anew(Endpoint1::Ready);
-        usb.input_1([1].into_iter().collect());
-        wire.borrow_mut().comes = Some((at, |played| {
-            let takes = played.input(1) != Answer::Nak;
-            if takes {
-                played.acknowledged(1);
-            }
-            takes
-        }));
-        usb.begin_anew(Endpoint1::Ready);
-        // Nothing of it is left, and the next packet has DATA0.
-        assert_eq!(wire.borrow_mut().registers.input(1), Answer::Nak, "{at}");
-        assert_eq!(usb.taken_1(), 0, "{at}");
-        usb.input_1([2].into_iter().collect());
-        assert_eq!(wire.borrow_mut().registers.input(1), Answer::Packet(false, vec![2]), "{at}");
-    }
-}
-
-#[test]
-fn a_packet_of_endpoint_1_is_handed_over_beside_a_setup_packet() {
-    for at in 0..40 {
-        let wire = quiet();
-        let rp2040 = Rp2040::start(&wire);
-        let mut usb = Rp2040Usb(&rp2040);
-        usb.begin_anew(Endpoint1::Ready);
-        wire.borrow_mut().comes = Some((at, setup_comes));
-        usb.input_1([1].into_iter().collect());
-        assert_eq!(wire.borrow_mut().registers.input(1), Answer::Packet(false, vec![1]), "{at}");
-    }
-}
-
-#[test]
-fn a_packet_that_was_taken_turns_the_toggle() {
-    for is_taken in [false, true] {
-        let wire = quiet();
-        let rp2040 = Rp2040::start(&wire);
-        let mut usb = Rp2040Usb(&rp2040);
-        usb.begin_anew(Endpoint1::Ready);
-        usb.input_1([1].into_iter().collect());
-        if is_taken {
-            wire.borrow_mut().registers.acknowledged(1);
-        }
-        usb.give_up();
-        usb.input_1([2].into_iter().collect());
-        assert_eq!(wire.borrow_mut().registers.input(1), Answer::Packet(is_taken, vec![2]));
-    }
-}
-
-type Driver<'r, 'w> = Rp2040Usb<'r, &'w Wired>;
-
-fn run<'r, 'w: 'r>(wire: &'w Wired, rp2040: &'r Rp2040<&'w Wired>) -> Run<'r, Played, Driver<'r, 'w>> {
-    wire.borrow_mut().registers.reset();
-    interrupts_run(wire);
-    Run::new(wire, Rp2040Usb(rp2040), |driver, usb| driver.serve(usb))
-}
-
-#[test]
-fn a_host_enumerates_the_keyboard_sets_a_key_and_hears_it() {
-    let wire = quiet();
-    let rp2040 = Rp2040::start(&wire);
-    let mut run = run(&wire, &rp2040);
-    run.serve();
-    run.enumerates();
-    assert_eq!(wire.borrow().registers.word(ADDRESS), 9);
-    run.sets_a_key_and_hears_it();
-    run.sleeps_and_wakes();
-    // A reset takes address and endpoint 1 away at once.
-    wire.borrow_mut().registers.reset();
-    interrupts_run(&wire);
-    assert_eq!((wire.borrow().registers.word(ADDRESS), wire.borrow().registers.word(ENDPOINT_1)), (0, 0));
-}
-
-#[test]
-fn a_suspend_at_any_access_is_told() {
-    let came = (0..100).take_while(|at| {
-        let wire = quiet();
-        let rp2040 = Rp2040::start(&wire);
-        let mut run = run(&wire, &rp2040);
-        run.serve();
-        run.is_suspended_at(*at)
-    });
-    assert!(came.count() > 3);
 }
 
 #[test]
@@ -437,14 +258,75 @@ fn what_the_packet_memory_held_is_gone_at_the_start() {
     assert!((ENDPOINT_1..0x100).step_by(4).all(|place| wire.borrow().registers.word(place) == 0));
 }
 
+/// Reports of two packets, and a keyboard that may wake its host.
+static PRODUCT: Product<'static> =
+    Product::of(Identity { packet_size: PacketSize::Bytes16, remote_wakeup: true, ..Identity::TEST });
+
+/// The driver of a flash with error correction, whose cells are shared.
+struct Corrected(&'static RefCell<Vec<u8>>);
+
+impl FlashDriver for Corrected {
+    type Error = Infallible;
+    const READ_SIZE: usize = 1;
+    const WRITE_SIZE: usize = 8;
+    const ERASE_SIZE: usize = 2048;
+
+    fn capacity(&self) -> usize {
+        self.0.borrow().len()
+    }
+
+    fn read(&mut self, offset: u32, bytes: &mut [u8]) -> Result<(), Infallible> {
+        bytes.copy_from_slice(&self.0.borrow()[offset as usize..][..bytes.len()]);
+        Ok(())
+    }
+
+    fn write(&mut self, offset: u32, bytes: &[u8]) -> Result<(), Infallible> {
+        self.0.borrow_mut()[offset as usize..][..bytes.len()].copy_from_slice(bytes);
+        Ok(())
+    }
+
+    fn erase(&mut self, from: u32, to: u32) -> Result<(), Infallible> {
+        self.0.borrow_mut()[from as usize..to as usize].fill(0xff);
+        Ok(())
+    }
+}
+
+/// What a maker ships: a layout and a flash driver of one's own.
+struct Shipped;
+
+impl Firmware for Shipped {
+    type Registers = Played;
+    type Driver = Rp2040Usb<'static, &'static Wired>;
+    type Cells = RefCell<Vec<u8>>;
+    type Flash = PairedFlash<UnitFlash<Corrected>>;
+    type Layout = Other;
+
+    fn product() -> &'static Product<'static> {
+        &PRODUCT
+    }
+
+    fn registers() -> Played {
+        Played::default()
+    }
+
+    fn driver(wire: &'static Wired) -> Self::Driver {
+        Rp2040Usb(Box::leak(Box::new(Rp2040::start(wire))))
+    }
+
+    fn cells() -> RefCell<Vec<u8>> {
+        RefCell::new(vec![0xff; 16384])
+    }
+
+    fn flash(cells: &'static RefCell<Vec<u8>>) -> Self::Flash {
+        PairedFlash::mount(UnitFlash::new(Corrected(cells), 0, 2).unwrap())
+    }
+
+    fn round(driver: Self::Driver, device: &mut UsbOf<Self>) {
+        driver.serve(device);
+    }
+}
+
 #[test]
-fn what_the_host_saw_the_end_of_is_stored_and_no_key_sticks() {
-    histories(2000, |seed| {
-        let wire = RefCell::new(OnWire::new(Played::default(), seed));
-        wire.borrow_mut().line.quiet = true;
-        let rp2040 = Rp2040::start(&wire);
-        wire.borrow_mut().line.quiet = false;
-        history(&mut run(&wire, &rp2040), &mut Numbers(seed));
-        wire.borrow().line.counts
-    });
+fn a_host_finds_no_fault() {
+    testing::check::<Shipped>(2000);
 }

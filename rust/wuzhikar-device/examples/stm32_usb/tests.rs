@@ -1,12 +1,10 @@
 //! The driver over registers that are played: a write turns bits of STAT and DTOG round, and at any access something may
 //! come on the bus.
 
-#[path = "../tests/played_host.rs"]
-mod played_host;
-
 use super::*;
-use played_host::host::Numbers;
-use played_host::{Answer, OnWire, Run, Wire, histories, history};
+use wuzhikar::{SimFlash, Standard};
+use wuzhikar_device::testing::{self, Answer, Cells, Firmware, OnWire, UsbOf, Wire, Wired};
+use wuzhikar_device::{Identity, PacketSize, Product};
 
 #[derive(Debug, Default)]
 struct Played {
@@ -19,8 +17,6 @@ struct Played {
     /// For how many milliseconds the device signalled K, and whether it does.
     woken: Option<u32>,
 }
-
-const GET_STATUS: [u8; 8] = [0x80, 0, 0, 0, 0, 0, 2, 0];
 
 impl Wire for Played {
     /// It ends what the buffers of endpoint 0 hold; the packet before it has to be looked at first.
@@ -84,6 +80,10 @@ impl Wire for Played {
         self.status &= !SUSPENDED;
     }
 
+    fn address(&self) -> u8 {
+        (self.address & !ENABLED) as u8
+    }
+
     fn wakes(&mut self) -> bool {
         self.woken.take_if(|_| self.control & WAKE == 0).is_some_and(|time| (1..=15).contains(&time))
     }
@@ -138,125 +138,94 @@ impl Registers for OnWire<Played> {
     }
 }
 
-/// A controller on these registers behind a reset, whose endpoint 0 answers so.
-fn started(registers: &RefCell<OnWire<Played>>, to: u16) -> Stm32Usb<'_, OnWire<Played>> {
-    let mut usb = Stm32Usb::new(registers);
-    usb.forget();
-    usb.set(Register::Endpoint0, STAT_TX | STAT_RX, to);
-    usb
-}
+/// Reports of one packet, and a keyboard that may wake its host.
+static PRODUCT: Product<'static> =
+    Product::of(Identity { packet_size: PacketSize::Bytes32, remote_wakeup: true, ..Identity::TEST });
 
-fn setup_comes(played: &mut Played) -> bool {
-    played.setup(GET_STATUS)
-}
+/// What a maker ships.
+struct Plain;
 
-fn takes_1(played: &mut Played) -> bool {
-    let takes = matches!(played.input(1), Answer::Packet(..));
-    if takes {
-        played.acknowledged(1);
+impl Firmware for Plain {
+    type Registers = Played;
+    type Driver = Stm32Usb<'static, OnWire<Played>>;
+    type Cells = RefCell<SimFlash>;
+    type Flash = Cells<SimFlash>;
+    type Layout = Standard;
+
+    fn product() -> &'static Product<'static> {
+        &PRODUCT
     }
-    takes
-}
 
-#[test]
-fn a_setup_packet_at_any_access_leaves_nothing_in_the_buffers() {
-    let calls: [fn(&mut Stm32Usb<'_, OnWire<Played>>); 6] = [
-        |usb| usb.input_0(Input::Nak),
-        |usb| usb.input_0(Input::Packet([1, 2].into_iter().collect())),
-        |usb| usb.input_0(Input::Stall),
-        |usb| usb.output_0(Output::Nak),
-        |usb| usb.output_0(Output::Take),
-        |usb| usb.output_0(Output::Stall),
-    ];
-    let mut places = 0;
-    for (input, output) in [NAK, STALL, VALID].into_iter().flat_map(|one| [NAK, STALL, VALID].map(|other| (one, other))) {
-        for call in calls {
-            for at in 0.. {
-                let registers = RefCell::new(OnWire::quiet(Played::default()));
-                let mut usb = started(&registers, input & STAT_TX | output & STAT_RX);
-                registers.borrow_mut().comes = Some((at, setup_comes));
-                call(&mut usb);
-                if registers.borrow().comes.is_some() {
-                    break;
-                }
-                assert_eq!(registers.borrow().registers.endpoints[0] & (STAT_TX | STAT_RX), NAK, "at access {at}");
-                assert!(!registers.borrow().masked);
-                assert_eq!(usb.waiting().setup, Some(GET_STATUS));
-                places += 1;
-            }
-        }
+    fn registers() -> Played {
+        Played::default()
     }
-    assert!(places >= 9 * 6 * 4, "{places}");
-}
 
-#[test]
-fn what_comes_at_any_access_is_told_once() {
-    for at in 0..8 {
-        let registers = RefCell::new(OnWire::quiet(Played::default()));
-        let mut usb = started(&registers, VALID);
-        registers.borrow_mut().registers.acknowledged(0);
-        assert_eq!(registers.borrow_mut().registers.out(false, &[7]), Answer::Ack);
-        registers.borrow_mut().comes = Some((at, setup_comes));
-        let met = [usb.waiting(), usb.waiting(), usb.waiting()];
-        assert_eq!(met.iter().filter(|met| met.taken).count(), 1);
-        assert_eq!(met[0].out.as_deref(), Some(&[7][..]));
-        let setups: Vec<usize> = (0..3).filter(|number| met[*number].setup == Some(GET_STATUS)).collect();
-        assert!(setups.len() == usize::from(registers.borrow().comes.is_none()) && setups != [0], "{at}: {setups:?}");
+    fn driver(wire: &'static Wired<Played>) -> Self::Driver {
+        Stm32Usb::new(wire)
+    }
+
+    fn cells() -> RefCell<SimFlash> {
+        RefCell::new(SimFlash::blank(2).unwrap())
+    }
+
+    fn flash(cells: &'static RefCell<SimFlash>) -> Cells<SimFlash> {
+        Cells(cells)
+    }
+
+    fn round(driver: Self::Driver, device: &mut UsbOf<Self>) {
+        driver.serve(device);
     }
 }
 
-#[test]
-fn a_packet_of_endpoint_1_is_taken_or_dropped() {
-    for at in 0..16 {
-        let registers = RefCell::new(OnWire::quiet(Played::default()));
-        let mut usb = started(&registers, NAK);
-        usb.begin_anew(Endpoint1::Ready);
-        usb.input_1([1].into_iter().collect());
-        registers.borrow_mut().comes = Some((at, takes_1));
-        usb.begin_anew(Endpoint1::Ready);
-        // Nothing of it is left, and the next packet has DATA0.
-        assert_eq!(registers.borrow_mut().registers.input(1), Answer::Nak, "{at}");
-        assert_eq!(usb.taken_1(), 0, "{at}");
-        assert_eq!(registers.borrow().registers.endpoints[1] & DTOG_TX, 0, "{at}");
+/// The same with reports of up to three packets, and a keyboard that may not wake its host.
+struct Small;
+
+static SMALL: Product<'static> =
+    Product::of(Identity { packet_size: PacketSize::Bytes8, remote_wakeup: false, ..Identity::TEST });
+
+impl Firmware for Small {
+    type Registers = Played;
+    type Driver = Stm32Usb<'static, OnWire<Played>>;
+    type Cells = RefCell<SimFlash>;
+    type Flash = Cells<SimFlash>;
+    type Layout = Standard;
+
+    fn product() -> &'static Product<'static> {
+        &SMALL
+    }
+
+    fn registers() -> Played {
+        Plain::registers()
+    }
+
+    fn driver(wire: &'static Wired<Played>) -> Self::Driver {
+        Plain::driver(wire)
+    }
+
+    fn cells() -> RefCell<SimFlash> {
+        Plain::cells()
+    }
+
+    fn flash(cells: &'static RefCell<SimFlash>) -> Cells<SimFlash> {
+        Plain::flash(cells)
+    }
+
+    fn round(driver: Self::Driver, device: &mut UsbOf<Self>) {
+        driver.serve(device);
     }
 }
 
-/// The device behind a reset, as it is at the power's coming.
-fn run(registers: &RefCell<OnWire<Played>>) -> Run<'_, Played, Stm32Usb<'_, OnWire<Played>>> {
-    registers.borrow_mut().registers.reset();
-    Run::new(registers, Stm32Usb::new(registers), |driver, usb| driver.serve(usb))
+#[test]
+fn a_host_finds_no_fault() {
+    testing::check::<Plain>(2000);
 }
 
 #[test]
-fn a_host_enumerates_the_keyboard_sets_a_key_and_hears_it() {
-    let registers = RefCell::new(OnWire::quiet(Played::default()));
-    let mut run = run(&registers);
-    run.serve();
-    run.enumerates();
-    assert_eq!(registers.borrow().registers.address, ENABLED | 9);
-    run.sets_a_key_and_hears_it();
-    run.sleeps_and_wakes();
-    run.serve();
-    // Neither FSUSP nor RESUME is left.
-    assert_eq!(registers.borrow().registers.control, 0);
+fn a_host_finds_no_fault_with_small_packets() {
+    testing::check::<Small>(1000);
 }
 
 #[test]
-fn a_suspend_at_any_access_is_told() {
-    let came = (0..100).take_while(|at| {
-        let registers = RefCell::new(OnWire::quiet(Played::default()));
-        let mut run = run(&registers);
-        run.serve();
-        run.is_suspended_at(*at)
-    });
-    assert!(came.count() > 3);
-}
-
-#[test]
-fn what_the_host_saw_the_end_of_is_stored_and_no_key_sticks() {
-    histories(2000, |seed| {
-        let registers = RefCell::new(OnWire::new(Played::default(), seed));
-        history(&mut run(&registers), &mut Numbers(seed));
-        registers.borrow().line.counts
-    });
+fn neither_fsusp_nor_resume_is_left() {
+    assert_eq!(testing::session::<Plain>().borrow().registers.control, 0);
 }

@@ -1,13 +1,12 @@
 //! The device behind a controller with buffers, on buses that lose every fourth acknowledgement.
 
 mod bus;
-mod host;
 mod lost;
 
 use super::{Layouted, Other};
+use crate::testing::host::{Act, Numbers, SET_CONFIGURATION};
 use crate::{DeviceLayer, Endpoint1, EpAnswer, Identity, Keys, PacketSize, Product, UsbDevice};
 use bus::{Bus, COMMANDS, Counts, Played};
-use host::{Act, Numbers, SET_CONFIGURATION};
 use std::cell::RefCell;
 use wuzhikar::{Defaults, KeyNo, KeyboardOf, LayerNo, Scan, SimFlash, Standard};
 

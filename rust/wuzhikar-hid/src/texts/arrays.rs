@@ -1,5 +1,5 @@
-//! Arrays as C and Rust write them: numbers with commas between them, also one behind the last, in braces or brackets, with a
-//! declaration before them, or without. What follows the closing one is not read.
+//! Arrays as C and Rust write them: numbers with commas between them, also one behind the last, in braces or brackets, with code
+//! before them, or without. What follows the closing one is not read.
 
 use super::{Fault, Form, Why, digits, is_blank, pair};
 use alloc::vec::Vec;
@@ -13,17 +13,38 @@ pub enum Language {
 
 /// The bytes of an array, or its first fault.
 pub fn read(text: &[u8], language: Language) -> Result<Vec<u8>, Fault> {
+    let (bare, ended) = bare(text, language);
     let (open, close) = match language {
-        Language::C => (brace(text, gap_end(text, 0, language)?), b'}'),
-        Language::Rust => (Some(bracket(text)?), b']'),
+        Language::C => (brace(&bare), b'}'),
+        Language::Rust => (bracket(&bare), b']'),
     };
-    let ends = |at: usize| if open.is_some() { text.get(at) == Some(&close) } else { at == text.len() };
-    let is_open = || Fault { at: open.unwrap_or(text.len()), why: Why::OpenList };
-    let (mut bytes, mut at) = (Vec::new(), open.map_or(0, |open| open + 1));
+    let start = bare.iter().position(|byte| !is_blank(*byte)).unwrap_or(text.len());
+    let no_list = |at| Fault { at, why: Why::NoList };
+    if open.is_none() {
+        ended?;
+        if language == Language::Rust {
+            return Err(no_list(start));
+        }
+    }
+    let (bytes, end) = listed(text, open.map_or((start, None), |open| (open + 1, Some((open, close)))), language)?;
+    // (What is assigned to, as in `[0] = 5`, is an index or a pattern.)
+    match bare.get(end..).unwrap_or_default().trim_ascii_start() {
+        [b'=', b'=', ..] => Ok(bytes),
+        [b'=', ..] => Err(no_list(open.unwrap_or(start))),
+        _ => Ok(bytes),
+    }
+}
+
+/// The bytes of the list whose first number stands here or later, and where it ends: behind the closing sign, or with the text
+/// where none opens it.
+fn listed(text: &[u8], (from, opened): (usize, Option<(usize, u8)>), language: Language) -> Result<(Vec<u8>, usize), Fault> {
+    let ends = |at: usize| opened.map_or(at == text.len(), |(_, close)| text.get(at) == Some(&close));
+    let is_open = || Fault { at: opened.map_or(text.len(), |(open, _)| open), why: Why::OpenList };
+    let (mut bytes, mut at) = (Vec::new(), from);
     loop {
         at = gap_end(text, at, language)?;
         if ends(at) {
-            return Ok(bytes);
+            return Ok((bytes, (at + 1).min(text.len())));
         }
         if at == text.len() {
             return Err(is_open());
@@ -33,7 +54,7 @@ pub fn read(text: &[u8], language: Language) -> Result<Vec<u8>, Fault> {
         at = gap_end(text, at + word.len(), language)?;
         match text.get(at) {
             Some(b',') => at += 1,
-            _ if ends(at) => return Ok(bytes),
+            _ if ends(at) => {}
             Some(_) => return Err(Fault { at, why: Why::NoComma }),
             None => return Err(is_open()),
         }
@@ -67,10 +88,12 @@ pub fn read_loose(text: &[u8]) -> Result<Vec<u8>, Fault> {
 
 /// The form of arrays that a text looks most like.
 pub fn likely(text: &[u8]) -> Option<Form> {
-    let bare = without_comments(text);
-    let bare = bare.as_deref().unwrap_or(text);
+    let (c, rust) = (bare(text, Language::C).0, bare(text, Language::Rust).0);
+    if brace(&c).is_none() && bracket(&rust).is_some() {
+        return Some(Form::Rust);
+    }
     let marks = [(b'{', Form::C), (b'[', Form::Rust), (b',', Form::C)];
-    marks.into_iter().find(|(mark, _)| bare.contains(mark)).map(|(_, form)| form)
+    marks.into_iter().find(|(mark, _)| c.contains(mark)).map(|(_, form)| form)
 }
 
 /// A text in which blanks stand for its comments, at the same places.
@@ -85,47 +108,137 @@ fn without_comments(text: &[u8]) -> Result<Vec<u8>, Fault> {
     Ok(kept)
 }
 
-/// Where the brace is of the declaration of C that begins here, if one does.
-fn brace(text: &[u8], from: usize) -> Option<usize> {
-    let place = from + text[from..].iter().position(|byte| matches!(byte, b'{' | b',' | b'/'))?;
-    (text[place] == b'{' && !text[from].is_ascii_digit()).then_some(place)
+/// A text in which blanks stand for what says no list, at the same places: comments, texts, characters, lines of C's
+/// preprocessor, attributes of Rust. An open comment or attribute ends it, and is its fault.
+fn bare(text: &[u8], language: Language) -> (Vec<u8>, Result<(), Fault>) {
+    let mut kept = Vec::with_capacity(text.len());
+    // The attribute that is open, and how many brackets are in it.
+    let (mut attribute, mut depth) = (0, 0_usize);
+    while let Some(byte) = text.get(kept.len()) {
+        let at = kept.len();
+        let end = match left_out(text, at, language) {
+            Err(fault) => return (kept, Err(fault)),
+            Ok(end) => end,
+        };
+        if end > at {
+            kept.resize(end, b' ');
+            continue;
+        }
+        if depth == 0 && language == Language::Rust && matches!(&text[at..], [b'#', b'[', ..] | [b'#', b'!', b'[', ..]) {
+            (attribute, depth) = (at, 1);
+            kept.resize(at + if text[at + 1] == b'[' { 2 } else { 3 }, b' ');
+            continue;
+        }
+        kept.push(if depth > 0 { b' ' } else { *byte });
+        depth = match byte {
+            b'[' if depth > 0 => depth + 1,
+            b']' => depth.saturating_sub(1),
+            _ => depth,
+        };
+    }
+    let ended = if depth > 0 { Err(Fault { at: attribute, why: Why::OpenList }) } else { Ok(()) };
+    (kept, ended)
 }
 
-/// Where the bracket is that a list of Rust begins with: the first that stands behind no word, and in no type, which is what stands
-/// between `:` and `=`.
-fn bracket(text: &[u8]) -> Result<usize, Fault> {
-    let mut at = attributes_end(text)?;
-    let (start, mut is_type, mut before) = (at, false, b' ');
-    while at < text.len() {
-        match text[at] {
-            b'[' if !is_type && !before.is_ascii_alphanumeric() && before != b'_' => return Ok(at),
-            b':' => is_type = true,
-            b'=' => is_type = false,
+/// Where the comment, the text, the character or the line of the preprocessor ends that begins here, if one does.
+fn left_out(text: &[u8], at: usize, language: Language) -> Result<usize, Fault> {
+    let rest = &text[at..];
+    Ok(match rest {
+        [b'/', b'/' | b'*', ..] => gap_end(text, at, language)?,
+        [b'"', ..] => at + quoted_len(&text[..at], rest),
+        [b'\'', ..] => at + character_len(rest),
+        [b'#', ..] if language == Language::C => at + line_len(rest),
+        _ => at,
+    })
+}
+
+/// The length of the text in quotes that these bytes begin with; all of them where it does not end. One of Rust is raw behind an
+/// `r` and as many `#` as stand behind it.
+fn quoted_len(before: &[u8], text: &[u8]) -> usize {
+    let hashes = before.iter().rev().take_while(|byte| **byte == b'#').count();
+    if before[..before.len() - hashes].ends_with(b"r") {
+        let ends = |at: &usize| {
+            text[*at] == b'"' && text[at + 1..].iter().take_while(|byte| **byte == b'#').take(hashes).count() == hashes
+        };
+        return (1..text.len()).find(ends).map_or(text.len(), |end| end + 1 + hashes);
+    }
+    let mut is_escaped = true;
+    let ends = |byte: &u8| {
+        let ends = *byte == b'"' && !is_escaped;
+        is_escaped = *byte == b'\\' && !is_escaped;
+        ends
+    };
+    text.iter().position(ends).map_or(text.len(), |end| end + 1)
+}
+
+/// The length of the character in quotes that these bytes begin with; one of a quote that begins a lifetime.
+fn character_len(text: &[u8]) -> usize {
+    let is_quote = |byte: &u8| *byte == b'\'';
+    let end = match text.get(1) {
+        Some(b'\\') => text.iter().take(12).skip(3).position(is_quote).map(|end| end + 3),
+        first => {
+            let width = first.map_or(1, |byte| byte.leading_ones().clamp(1, 4) as usize);
+            Some(1 + width).filter(|end| text.get(*end).is_some_and(is_quote))
+        }
+    };
+    end.map_or(1, |end| end + 1)
+}
+
+/// The length of the line that a text begins with, and of those that a backslash at the end of one joins to it.
+fn line_len(text: &[u8]) -> usize {
+    let ends = |at: &usize| text[*at] == b'\n' && !matches!(text[..*at], [.., b'\\'] | [.., b'\\', b'\r']);
+    (0..text.len()).find(ends).unwrap_or(text.len())
+}
+
+/// Where the list of C begins that is in braces: at the first brace that begins an initializer, which stands behind `=`, the type of
+/// an array or nothing. There is none in a text that begins with a digit.
+fn brace(bare: &[u8]) -> Option<usize> {
+    let is_initializer = |before: &[u8]| match before.trim_ascii_end() {
+        [] => true,
+        [.., before, b'='] => !matches!(before, b'=' | b'<' | b'>' | b'!'),
+        before => before == b"=" || is_array(before),
+    };
+    let is_bare = bare.trim_ascii_start().first().is_some_and(u8::is_ascii_digit);
+    (0..bare.len()).filter(|_| !is_bare).find(|at| bare[*at] == b'{' && is_initializer(&bare[..*at]))
+}
+
+/// Whether what stands before a brace ends with the type of an array: `byte[]`, `(uint8_t[])`, or `[]byte`.
+fn is_array(before: &[u8]) -> bool {
+    let is_word = |byte: &&u8| byte.is_ascii_alphanumeric() || **byte == b'_';
+    let before = before.strip_suffix(b")").unwrap_or(before);
+    let count = before.iter().rev().take_while(is_word).count();
+    match &before[..before.len() - count] {
+        [.., b'[', b']'] if count > 0 => true,
+        [.., last, b'[', b']'] => is_word(&last),
+        _ => false,
+    }
+}
+
+/// Where the list of Rust begins: at the first bracket in which a number stands behind the bracket itself or a comma, and which no
+/// word stands before, as before an index; else at the first that holds nothing, and that stands behind `=`, `= &` or nothing. (In
+/// a type, a number stands behind a semicolon.)
+fn bracket(bare: &[u8]) -> Option<usize> {
+    // How many brackets are open, and the first of them that may be a list, with what stands before it.
+    let (mut depth, mut list, mut empty, mut before) = (0_usize, None, None, [b'='; 2]);
+    for (at, byte) in (0..).zip(bare).filter(|(_, byte)| !is_blank(**byte)) {
+        match byte {
+            b'[' => {
+                depth += 1;
+                let is_index = before[1].is_ascii_alphanumeric() || matches!(before[1], b'_' | b')' | b']');
+                list = list.or((!is_index).then_some((at, depth, matches!(before, [_, b'='] | [b'=', b'&']))));
+            }
+            b']' => {
+                if let Some((open, _, is_value)) = list.take_if(|(_, own, _)| *own >= depth) {
+                    empty = empty.or((before[1] == b'[' && is_value).then_some(open));
+                }
+                depth = depth.saturating_sub(1);
+            }
+            b'0'..=b'9' if list.is_some() && matches!(before[1], b'[' | b',') => return list.map(|(open, ..)| open),
             _ => {}
         }
-        before = text[at];
-        at = gap_end(text, at + 1, Language::Rust)?;
+        before = [before[1], *byte];
     }
-    Err(Fault { at: start, why: Why::NoList })
-}
-
-/// Where the comments and attributes end that a text of Rust begins with.
-fn attributes_end(text: &[u8]) -> Result<usize, Fault> {
-    let mut at = gap_end(text, 0, Language::Rust)?;
-    while text[at..].starts_with(b"#[") {
-        let (open, mut depth) = (at + 1, 0_usize);
-        let closes = |byte: &u8| {
-            depth = match byte {
-                b'[' => depth + 1,
-                b']' => depth - 1,
-                _ => depth,
-            };
-            depth == 0
-        };
-        let end = text[open..].iter().position(closes).ok_or(Fault { at: open, why: Why::OpenList })?;
-        at = gap_end(text, open + end + 1, Language::Rust)?;
-    }
-    Ok(at)
+    empty
 }
 
 /// Where blanks and comments end that begin here.

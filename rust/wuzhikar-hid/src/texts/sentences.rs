@@ -1,8 +1,9 @@
 //! Sentences about texts that are refused. A line and a column are counted from 1, and a column is a byte.
 
-use super::{Fault, MOST, Why};
+use super::{Fault, MOST, Mark, Why, mark_len};
 use alloc::format;
 use alloc::string::String;
+use core::fmt;
 
 /// How many bytes of a word are shown.
 const MOST_OF_WORD: usize = 40;
@@ -17,6 +18,9 @@ impl Fault {
     /// Returns what is wrong there.
     pub fn words(self, text: &[u8]) -> String {
         let word = || shown(word_at(text, self.at));
+        if let Some(mark) = Mark::of(text).filter(|_| self.at < 2) {
+            return format!("{mark}");
+        }
         match self.why {
             Why::OddDigits(count) => format!("the text has {count} hex digits, and a byte takes two"),
             Why::NoDigit => format!("{} is no hex digit", shown(&text[self.at..=self.at])),
@@ -36,8 +40,19 @@ impl Fault {
             Why::WrongCount(count) => format!("{} is not the number of the bytes, which is {count}", word()),
             Why::Second => "a second descriptor or device; one is wanted".into(),
             Why::NoDescriptor => "the text ends without a descriptor".into(),
-            Why::Ambiguous => "hex digits, and lines of hexdump as well".into(),
+            Why::Ambiguous(form, other) => format!("the text is {}, and says other bytes as {}", form.name(), other.name()),
+            Why::Utf16 => format!("{}", Mark::Utf16),
         }
+    }
+}
+
+/// What is wrong with a text that begins with it.
+impl fmt::Display for Mark {
+    fn fmt(&self, f: &mut fmt::Formatter<'_>) -> fmt::Result {
+        f.write_str(match self {
+            Mark::Utf8 => "a byte order mark (EF BB BF) stands before the text",
+            Mark::Utf16 => "the text is in UTF-16; UTF-8 is wanted",
+        })
     }
 }
 
@@ -48,9 +63,9 @@ fn word_at(text: &[u8], place: usize) -> &[u8] {
     &rest[..end.map_or(rest.len(), |end| end.max(1))]
 }
 
-/// The line and the column of a place.
+/// The line and the column of a place. A mark takes no column.
 fn place_of(text: &[u8], place: usize) -> (usize, usize) {
-    let before = &text[..place];
+    let before = &text[mark_len(text).unwrap_or(0).min(place)..place];
     let lines = before.iter().filter(|byte| **byte == b'\n').count();
     (lines + 1, before.iter().rev().take_while(|byte| **byte != b'\n').count() + 1)
 }

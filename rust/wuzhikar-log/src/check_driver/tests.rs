@@ -3,7 +3,7 @@
 use super::*;
 use crate::parts::flash_model::FlashFault;
 use crate::ram::Ram;
-use crate::{PairedFlash, SlotFlash, UnitFlash};
+use crate::{FlashDriver, PairedFlash, SlotFlash, UnitFlash};
 use core::cell::Cell;
 use std::string::ToString;
 use std::vec;
@@ -115,6 +115,62 @@ fn the_adapters_pass_on_a_chip_that_takes_no_second_program() {
     assert_eq!(check_driver(&mut flash), Ok(()));
     let units = UnitFlash::new(Ram::<1, 8, 2048>::new(16384), 0, 2).expect("served");
     assert_eq!(check_driver(&mut PairedFlash::mount(units)), Ok(()));
+}
+
+/// A driver of units whose bytes come in another order, or whose writes to one page fail.
+struct Turned {
+    ram: Ram<1, 8, 2048>,
+    turn: fn(&mut [u8]),
+    fails_at: u32,
+}
+
+impl FlashDriver for Turned {
+    type Error = &'static str;
+    const READ_SIZE: usize = 1;
+    const WRITE_SIZE: usize = 8;
+    const ERASE_SIZE: usize = 2048;
+
+    fn capacity(&self) -> usize {
+        self.ram.capacity()
+    }
+
+    fn read(&mut self, offset: u32, bytes: &mut [u8]) -> Result<(), &'static str> {
+        self.ram.read(offset, bytes)
+    }
+
+    fn write(&mut self, offset: u32, bytes: &[u8]) -> Result<(), &'static str> {
+        if offset == self.fails_at {
+            return Err("worn");
+        }
+        let mut turned: Vec<u8> = bytes.into();
+        (self.turn)(&mut turned);
+        self.ram.write(offset, &turned)
+    }
+
+    fn erase(&mut self, from: u32, to: u32) -> Result<(), &'static str> {
+        self.ram.erase(from, to)
+    }
+}
+
+#[test]
+fn a_wrong_order_of_bytes_is_named_over_error_correction_too() {
+    let checked = |turn, fails_at| {
+        let driver = Turned { ram: Ram::new(16384), turn, fails_at };
+        check_driver(&mut PairedFlash::mount(UnitFlash::new(driver, 0, 2).expect("served")))
+    };
+    let turns: [fn(&mut [u8]); 3] = [
+        |bytes| bytes.reverse(),
+        |bytes| bytes.chunks_mut(4).for_each(<[u8]>::reverse),
+        |bytes| bytes.chunks_mut(2).for_each(<[u8]>::reverse),
+    ];
+    for turn in turns {
+        assert_eq!(checked(turn, u32::MAX), Err(DriverFault::ByteOrder(Place { page: 0, slot: 0 })));
+    }
+    // One unit that fails, the first and the last ones of a page, is nothing of the kind.
+    for slot in [0, 510, 511] {
+        assert_eq!(checked(|_| {}, 16 * slot), Err(DriverFault::ProgramFailed(Place { page: 0, slot: slot as usize })));
+    }
+    assert_eq!(checked(|bytes| bytes.fill(0), u32::MAX), Err(DriverFault::ProgramFailed(Place { page: 0, slot: 0 })));
 }
 
 #[test]

@@ -15,10 +15,10 @@
 //! and nothing between the two, also where the power is cut inside it. The crate `wuzhikar` calls it, and
 //! whoever keeps settings in NOR flash can.
 
+mod attempt;
 mod block;
 mod header;
 mod log;
-mod operation;
 mod reading;
 mod words;
 

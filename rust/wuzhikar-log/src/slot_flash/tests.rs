@@ -91,6 +91,17 @@ fn after_a_read_that_failed_nothing_is_written() {
 }
 
 #[test]
+fn a_write_and_an_erase_that_failed_are_faults() {
+    let mut flash = SlotFlash::new(Ram::<1, 8, 4096>::new(8192), 0, 2).expect("served");
+    assert_eq!(flash.program_slot(1, 0, [1; 8]), Ok(()));
+    assert_eq!(flash.program_slot(1, 0, [1; 8]), Err(FlashFault));
+    // The chip ends before the second page.
+    flash.units.driver().bytes.truncate(4096);
+    assert_eq!(flash.program_slot(1, 0, [1; 8]), Err(FlashFault));
+    assert_eq!(flash.erase_page(1), Err(FlashFault));
+}
+
+#[test]
 fn a_flash_that_holds_something_else_is_formatted() {
     let mut driver = Ram::<1, 8, 4096>::new(3 * 4096);
     driver.bytes[4096..2 * 4096].fill(0);

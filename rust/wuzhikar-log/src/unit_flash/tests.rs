@@ -64,6 +64,18 @@ fn a_read_that_failed_is_an_error_of_its_unit() {
 }
 
 #[test]
+fn a_write_and_an_erase_that_failed_are_faults() {
+    let mut flash = UnitFlash::new(Ram::<1, 8, 4096>::new(16384), 0, 2).expect("served");
+    assert_eq!(flash.program_unit(1, 0, [1; 8]), Ok(()));
+    assert_eq!(flash.program_unit(1, 0, [1; 8]), Err(FlashFault));
+    assert_eq!(flash.erase_units(1), Ok(()));
+    // The chip ends before the second page.
+    flash.units.driver().bytes.truncate(8192);
+    assert_eq!(flash.program_unit(1, 0, [1; 8]), Err(FlashFault));
+    assert_eq!(flash.erase_units(1), Err(FlashFault));
+}
+
+#[test]
 fn a_word_with_bit_31_is_a_fault_and_touches_nothing() {
     let units = UnitFlash::new(Ram::<1, 8, 4096>::new(16384), 0, 2).expect("served");
     let mut log = FlashLog::mount(PairedFlash::mount(units)).expect("2 pages");

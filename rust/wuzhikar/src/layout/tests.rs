@@ -37,9 +37,15 @@ fn a_keyboard_starts_with_the_codes_of_its_layout() {
 #[test]
 fn a_number_that_is_no_code_is_refused() {
     for number in [0x0002, 0x0003, 0x00A5, 0x00DF, 0x00E8, 0x4000, 0x4400, 0x5000, 0x5004, 0xFFFF] {
-        let mut codes = *Kinds::CODES;
-        codes[3][95] = number;
-        assert!(catch_unwind(|| checked(&codes)).is_err(), "{number:04x}");
+        let codes = *Kinds::CODES;
+        for (layer, key, said) in
+            [(3, 95, "layer 3, key 95: the number is no code"), (0, 7, "layer 0, key 07: the number is no code")]
+        {
+            let mut codes = codes;
+            codes[layer][key] = number;
+            let refused = catch_unwind(|| checked(&codes)).map_err(|said| said.downcast_ref::<String>().cloned());
+            assert_eq!(refused.map(|codes| codes.len()), Err(Some(said.into())), "{number:04x}");
+        }
     }
     assert_eq!(checked(Kinds::CODES).map(Code::bits)[..], Kinds::CODES.as_flattened()[..]);
 }

@@ -1,11 +1,9 @@
-//! Readers and writers that fail, and the longest text.
+//! Readers and writers that fail.
 
 use super::{refused, so_ended};
 use crate::tests::asserts::same_text;
 use crate::tests::rows::text_of;
-use crate::tests::streams::{
-    FailingReader, FailingWriter, KINDS, NeverFlushed, Repeated, before_it_fails,
-};
+use crate::tests::streams::{FailingReader, FailingWriter, KINDS, before_it_fails};
 use descriptor_parse::ParseFault;
 use parse_lines::{LinesError, describe, parse_text};
 use std::io::ErrorKind;
@@ -91,32 +89,4 @@ fn descriptors_that_can_not_be_written(rt: HostRuntime) {
             is_stopped(&rt, &writer, writes, ended, Ok(()), DESCRIBED);
         }
     }
-}
-
-#[test]
-fn a_writer_that_does_not_flush(rt: HostRuntime) {
-    let refused = Err(LinesError::Output);
-    let fields = parse_text(rt.alloc(), &mut TEXT.as_bytes(), &mut NeverFlushed);
-    so_ended(&rt, fields, refused, "fields");
-    so_ended(&rt, describe(&mut NeverFlushed), refused, "the keyboard");
-}
-
-/// Reads so many digits of a reader that fails then.
-fn reads_digits<R: AllocGlobal + Abort>(rt: &R, left: usize, fault: LinesError, expected: &str) {
-    let mut reader = Repeated {
-        byte: b'0',
-        left,
-        most: usize::MAX,
-        fails: true,
-    };
-    let mut printed = Vec::new(rt.alloc());
-    let ended = parse_text(rt.alloc(), &mut reader, &mut printed);
-    same_text(rt, text_of(printed.as_slice()), expected, expected);
-    so_ended(rt, ended, Err(fault), expected);
-}
-
-#[test]
-fn the_longest_text_of_a_reader_that_fails(rt: HostRuntime) {
-    reads_digits(&rt, 2_000_000, LinesError::TooLong, "fault too long\n");
-    reads_digits(&rt, 1_048_576, LinesError::Input, "fault input\n");
 }

@@ -1,11 +1,9 @@
-//! Readers and writers that fail, and the longest script.
+//! Readers and writers that fail, and page counts that no flash has.
 
 use super::{end_of, prints, so_ended};
 use crate::tests::asserts::same_text;
 use crate::tests::rows::text_of;
-use crate::tests::streams::{
-    FailingReader, FailingWriter, KINDS, NeverFlushed, Repeated, before_it_fails,
-};
+use crate::tests::streams::{FailingReader, FailingWriter, KINDS, before_it_fails};
 use kbsim::{LineFault, RunError, blank_flash, print_fault, run_on, run_script};
 use std::alloc::Global;
 use std::io::{ErrorKind, Read, Write};
@@ -123,33 +121,6 @@ fn the_line_of_a_fault_that_can_not_be_written(rt: HostRuntime) {
             );
         }
     }
-}
-
-#[test]
-fn a_writer_that_does_not_flush(rt: HostRuntime) {
-    let refused = Err(RunError::Output);
-    let blank = run(rt.alloc(), false, &mut SCRIPT.as_bytes(), &mut NeverFlushed);
-    so_ended(&rt, blank, refused, SCRIPT);
-    let given = run(rt.alloc(), true, &mut SCRIPT.as_bytes(), &mut NeverFlushed);
-    so_ended(&rt, given, refused, SCRIPT);
-    let ended = Err(print_fault(RunError::Image, &mut NeverFlushed));
-    so_ended(&rt, ended, refused, "a fault");
-}
-
-#[test]
-fn the_longest_script_of_a_reader_that_fails(rt: HostRuntime) {
-    // A comment.
-    let mut reader = Repeated {
-        byte: b'#',
-        left: 1_048_576,
-        most: usize::MAX,
-        fails: true,
-    };
-    let mut printed = Vec::new(rt.alloc());
-    let ended = run_script(rt.alloc(), 2, &mut reader, &mut printed);
-    let printed = text_of(printed.as_slice());
-    same_text(&rt, printed, "fault input\n", "a comment");
-    so_ended(&rt, ended, Err(RunError::Input), "a comment");
 }
 
 #[test]

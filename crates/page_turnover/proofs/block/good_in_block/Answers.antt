@@ -1,4 +1,4 @@
-use Rattle.std.proofs.Common.{◌≡◌, ◌∙◌, ℕ, ◌+◌, ◌*◌, ◌<◌, List, refl, sym, arith}
+use Rattle.std.proofs.Common.{◌≡◌, ◌∙◌, ℕ, ◌+◌, ◌*◌, List, refl, arith}
 use Rattle.flash_model.specs.Image.{slot_at}
 use Rattle.records.specs.Blocks.{slot_in}
 use Rattle.page_turnover.proofs.Operating.{slot_is}

@@ -2,9 +2,9 @@ use Rattle.std.proofs.Common.{◌≡◌, ◌∙◌, ap, sym, arith, true, false,
 use Rattle.std.specs.Prelude.{is_some}
 use Rattle.records.specs.Slots.{slot_of, IsSound}
 use Rattle.flash_model.specs.Image.{slot_at, page_count}
-use Rattle.page_turnover.specs.Header.{header_of}
 use Rattle.page_turnover.specs.Active.{newest}
-use Rattle.page_turnover.proofs.Headers.{newest-none, newest-more, active-newest}
+use Rattle.page_turnover.proofs.Headers.{newest-none, newest-more, active-newest, still_words}
+use Rattle.page_turnover.specs.representation.Log.{numbered}
 use Rattle.page_turnover.proofs.Soundness.{none_below, first_found, still_sound, still_first}
 use Rattle.page_turnover.proofs.reading.read_headers.Goals as goal
 use Rattle.page_turnover.proofs.reading.read_headers.Goals.{then-is_none+then-not-is_sound, else-is_none, else-is_none-via-then-is_none+else-not-is_sound, else-is_none-via-else-is_none}
@@ -12,7 +12,7 @@ use Rattle.page_turnover.proofs.reading.read_headers.Goals.{then-is_none+then-no
 pub loop-page-init : goal.loop-page-init
 loop-page-init g c =
     let image = g.F.NorFlash.image c.args.flash.now in
-    record { active_is = sym (newest-none image); unsound_is = none_below image }
+    record { active_is = sym (newest-none image); words_are = tt; unsound_is = none_below image }
 
 pub loop-page-preserved : goal.loop-page-preserved
 loop-page-preserved g c =
@@ -23,9 +23,10 @@ loop-page-preserved g c =
     record {
       active_is =
           let more = newest-more image page in
-          let header : c.header_seq.result ≡ header_of (slot_of (slot_at image page 0)) = c.header_seq.ensures ∙ ap header_of (c.classify.ensures ∙ ap slot_of bytes) in
-          let before : c.loop-page.active ≡ newest image page = c.loop-page.invariant.active_is in
-          cc;
+          let header : c.classify.result ≡ slot_of (slot_at image page 0) = c.classify.ensures ∙ ap slot_of bytes in
+          let before : numbered c.loop-page.active ≡ newest image page = c.loop-page.invariant.active_is in
+          c.newer-active.ensures.active ∙ rw (before, header) (sym more);
+      words_are = still_words image page c.classify.result c.loop-page.active c.newer-active.result (c.classify.ensures ∙ ap slot_of bytes) c.loop-page.invariant.words_are c.newer-active.ensures.word;
       unsound_is = elim c.if-is_none.branch [
         | then-is_none+then-not-is_sound w ↦ (
             let none : is_some c.loop-page.unsound ≡ false = rw w.if-is_none.true at c.is_none.ensures in

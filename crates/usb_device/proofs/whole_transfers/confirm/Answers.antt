@@ -1,9 +1,8 @@
-use Rattle.std.proofs.Common.{◌∷◌, ◌++◌, List, sym, ap, subst, ◌∙◌, refl}
+use Rattle.std.proofs.Common.{◌∷◌, ◌++◌, sym, ap, subst, ◌∙◌, refl}
 use Rattle.usb_device.specs.declared.answer.EpAnswer.{EpAnswer}
 use native.Mathlib.Numerals.{unary_clauses}
 use Rattle.usb_device.specs.declared.answer.EpAnswer.TheVariants.{Nak}
-use Rattle.usb_device.specs.Calls.{EpCall, In}
-use Rattle.usb_device.specs.Confirmed.{confirmation}
+use Rattle.usb_device.specs.Calls.{In}
 use Rattle.usb_device.specs.Whole.{put_off}
 use Rattle.usb_device.proofs.Wholes.{done_is, waits_is}
 use Rattle.usb_device.proofs.whole_transfers.confirm.Goals as goal

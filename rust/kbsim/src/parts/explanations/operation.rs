@@ -1,7 +1,7 @@
 // Exported from crates/explanations/src/operation.rt by bin/export-rust. Edit that file instead.
 //! The operations of the flash work.
 
-use crate::parts::explanations::code::ShownCommand;
+use crate::parts::explanations::code::tell_command;
 use crate::parts::kbsim::Operation as Asked;
 use wuzhikar_log::parts::records::{Slot, classify};
 use core::fmt;
@@ -44,21 +44,24 @@ impl Operation {
     }
 }
 
-impl fmt::Display for Operation {
-    fn fmt(&self, f: &mut fmt::Formatter<'_>) -> fmt::Result {
-        match self {
-            Operation::Erase { page } => write!(f, "erase of page {page}"),
-            Operation::Header { page, number } => {
-                write!(f, "header of page {page}, sequence number {number}")
-            }
-            Operation::Copy { page, slot, word } => {
-                let command = ShownCommand(*word);
-                write!(f, "copy to page {page}, slot {slot}: {command}")
-            }
-            Operation::Record { page, slot, word } => {
-                let command = ShownCommand(*word);
-                write!(f, "record in page {page}, slot {slot}: {command}")
-            }
+/// Tells an operation.
+pub(crate) fn tell_operation(
+    f: &mut fmt::Formatter<'_>,
+    operation: &Operation,
+) -> fmt::Result {
+    match operation {
+        Operation::Erase { page } => write!(f, "erase of page {page}"),
+        Operation::Header { page, number } => write!(
+            f,
+            "header of page {page}, sequence number {number}"
+        ),
+        Operation::Copy { page, slot, word } => {
+            write!(f, "copy to page {page}, slot {slot}: ")?;
+            tell_command(f, *word)
+        }
+        Operation::Record { page, slot, word } => {
+            write!(f, "record in page {page}, slot {slot}: ")?;
+            tell_command(f, *word)
         }
     }
 }
@@ -100,26 +103,21 @@ impl Made {
     }
 }
 
-/// The operations of a whole command.
-pub(crate) struct AllMade<'a>(pub(crate) &'a Made);
-
-impl fmt::Display for AllMade<'_> {
-    fn fmt(&self, f: &mut fmt::Formatter<'_>) -> fmt::Result {
-        let made = self.0;
-        if let Some(page) = made.erased {
-            write!(f, "erase of page {page}, ")?;
-        }
-        match made.copies {
-            0 => {}
-            1 => f.write_str("1 copy, ")?,
-            copies => write!(f, "{copies} copies, ")?,
-        }
-        if let Some(page) = made.header {
-            write!(f, "header of page {page}, ")?;
-        }
-        match made.last {
-            Some(operation) => write!(f, "{operation}"),
-            None => f.write_str("no operation"),
-        }
+/// Tells the operations of a whole command.
+pub(crate) fn tell_all(f: &mut fmt::Formatter<'_>, made: &Made) -> fmt::Result {
+    if let Some(page) = made.erased {
+        write!(f, "erase of page {page}, ")?;
+    }
+    match made.copies {
+        0 => {}
+        1 => f.write_str("1 copy, ")?,
+        copies => write!(f, "{copies} copies, ")?,
+    }
+    if let Some(page) = made.header {
+        write!(f, "header of page {page}, ")?;
+    }
+    match &made.last {
+        Some(operation) => tell_operation(f, operation),
+        None => f.write_str("no operation"),
     }
 }

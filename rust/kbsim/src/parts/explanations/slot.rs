@@ -1,48 +1,36 @@
 // Exported from crates/explanations/src/slot.rt by bin/export-rust. Edit that file instead.
 //! What a slot of the flash says.
 
-use crate::parts::explanations::code::ShownCommand;
+use crate::parts::explanations::code::tell_command;
 use wuzhikar_log::parts::flash_model::{NorFlash, SLOT_BYTES, SimFlash};
 use wuzhikar::parts::layers::Command;
 use wuzhikar_log::parts::records::{Slot, classify};
 use core::fmt;
 
-/// A slot with these bytes.
-pub(crate) struct ShownSlot<'a> {
-    pub(crate) page: u8,
-    pub(crate) slot: u16,
-    pub(crate) bytes: [u8; SLOT_BYTES],
-    pub(crate) flash: &'a SimFlash,
-}
-
-impl ShownSlot<'_> {
-    /// The word of slot 0 of the page; 0 where it holds none.
-    fn head(&self) -> u32 {
-        let page = self.page as usize;
-        if page >= self.flash.pages() {
-            return 0;
-        }
-        match classify(self.flash.read_slot(page, 0)) {
-            Slot::Good(word) => word,
-            Slot::Free | Slot::Spoiled => 0,
-        }
+/// Tells a slot with these bytes, of a page of a flash.
+pub(crate) fn tell_slot(
+    f: &mut fmt::Formatter<'_>,
+    flash: &SimFlash,
+    page: u8,
+    slot: u16,
+    bytes: [u8; SLOT_BYTES],
+) -> fmt::Result {
+    match classify(bytes) {
+        Slot::Free => f.write_str("free"),
+        Slot::Spoiled => f.write_str("no word, torn or damaged"),
+        Slot::Good(word) if slot == 0 => tell_header(f, word),
+        Slot::Good(word) => tell_command(f, in_format_2(head(flash, page as usize), word)),
     }
 }
 
-impl fmt::Display for ShownSlot<'_> {
-    fn fmt(&self, f: &mut fmt::Formatter<'_>) -> fmt::Result {
-        match classify(self.bytes) {
-            Slot::Free => f.write_str("free"),
-            Slot::Spoiled => f.write_str("no word, torn or damaged"),
-            Slot::Good(word) if self.slot == 0 => {
-                let header = ShownHeader(word);
-                write!(f, "{header}")
-            }
-            Slot::Good(word) => {
-                let command = ShownCommand(in_format_2(self.head(), word));
-                write!(f, "{command}")
-            }
-        }
+/// The word of slot 0 of a page; 0 where it holds none.
+fn head(flash: &SimFlash, page: usize) -> u32 {
+    if page >= flash.pages() {
+        return 0;
+    }
+    match classify(flash.read_slot(page, 0)) {
+        Slot::Good(word) => word,
+        Slot::Free | Slot::Spoiled => 0,
     }
 }
 
@@ -57,16 +45,12 @@ fn in_format_2(head: u32, word: u32) -> u32 {
     }
 }
 
-/// The word of a header.
-struct ShownHeader(u32);
-
-impl fmt::Display for ShownHeader {
-    fn fmt(&self, f: &mut fmt::Formatter<'_>) -> fmt::Result {
-        let format = self.0 >> 28;
-        let number = self.0 % 0x1000_0000;
-        match format {
-            1 | 2 => write!(f, "header of format {format}, sequence number {number}"),
-            _ => f.write_str("a word that is no header"),
-        }
+/// Tells the word of a header.
+fn tell_header(f: &mut fmt::Formatter<'_>, word: u32) -> fmt::Result {
+    let format = word >> 28;
+    let number = word % 0x1000_0000;
+    match format {
+        1 | 2 => write!(f, "header of format {format}, sequence number {number}"),
+        _ => f.write_str("a word that is no header"),
     }
 }

@@ -1,6 +1,6 @@
 //! A controller in memory with data toggles (USB 2.0 section 8.6), on whose bus something happens at each of its calls.
 
-use super::host::{Act, Host, Numbers, begins_endpoint_1, data, is_conforming_command, sets_protocol};
+use crate::testing::host::{Act, Host, Numbers, begins_endpoint_1, data, is_conforming_command, sets_protocol};
 use crate::{Buffers, Controller, Endpoint1, Input, Output, Report, Waiting};
 use std::cell::{RefCell, RefMut};
 use std::collections::{HashMap, VecDeque};
@@ -212,6 +212,7 @@ impl Bus {
     fn stalled(&mut self) {
         let is_conforming = self.host.is_conforming() && is_conforming_command(self.host.setup(), self.host.data());
         assert!(!is_conforming || self.allows_stalls, "a conforming command is stalled");
+        assert!(!self.host.is_conforming() || !self.host.ends_a_read(), "the end of a read is stalled");
         self.counts.0[STALLS] += 1;
         self.host.stalled();
     }

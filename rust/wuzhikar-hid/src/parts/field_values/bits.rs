@@ -11,8 +11,9 @@ pub fn put_number(bytes: &mut [u8], from: u64, size: u8, number: u32) {
 
 /// Writes one bit, where there is one.
 fn put_bit(bytes: &mut [u8], bit: u64, one: bool) {
-    let place = (bit / 8) as usize;
-    if place < bytes.len() {
+    // Compared before the cast, which loses bits where a `usize` has 32.
+    if bit / 8 < bytes.len() as u64 {
+        let place = (bit / 8) as usize;
         bytes[place] = with_bit(bytes[place], (bit % 8) as u8, one);
     }
 }

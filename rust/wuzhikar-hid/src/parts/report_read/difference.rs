@@ -26,7 +26,7 @@ pub struct Changed {
 /// 07:01 to 07:03 of a keyboard (ErrorRollOver, POSTFail, ErrorUndefined) are reported as any usage. They are no keys: a report
 /// with one of them does not tell which keys are down.
 ///
-/// The errors are those of [`ReportReader::read`], and then `Memory`.
+/// The errors are those of [`ReportReader::read`], and then `Memory`, where a usage is on.
 pub fn pressed(
     alloc: Global,
     reader: &ReportReader,
@@ -42,7 +42,7 @@ pub fn pressed(
 /// The usages in which two reports of a kind and ID differ.
 ///
 /// The errors are those of [`ReportReader::read`] for the earlier report, and for the later one; then `OtherId` where they have
-/// different IDs, and `Memory`.
+/// different IDs, and `Memory`, where a usage is on in one of them.
 pub fn changes(
     alloc: Global,
     reader: &ReportReader,

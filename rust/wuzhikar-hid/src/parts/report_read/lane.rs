@@ -4,7 +4,7 @@
 use crate::parts::report_read::value::Value;
 use wuzhikar_reader::parts::descriptor_parse::{Descriptor, Field};
 use crate::parts::field_values::{Within, is_within, usage_of};
-use wuzhikar_reader::parts::host_extract::{number_at, value_at};
+use wuzhikar_reader::parts::host_extract::{byte_at, number_at, value_at};
 use crate::parts::report_write::{Kept, usages_of};
 
 /// How the values of a field lie in a report.
@@ -117,15 +117,6 @@ fn way_of(field: &Field, ranges: &[(u32, u32)]) -> (Way, u32, u32) {
     };
     let way = if field.array { Way::Named } else { Way::Own };
     (way, *first, last - first)
-}
-
-/// A byte of a report, 0 past its end.
-#[inline(always)]
-fn byte_at(bytes: &[u8], index: u64) -> u32 {
-    match bytes.get(index as usize) {
-        Some(byte) => *byte as u32,
-        None => 0,
-    }
 }
 
 /// Where a value is that is within the logical extents or not.

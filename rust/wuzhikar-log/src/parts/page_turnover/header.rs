@@ -1,8 +1,6 @@
 // Exported from crates/page_turnover/src/header.rt by bin/export-rust. Edit that file instead.
 //! The header of a page.
 
-use crate::parts::records::Slot;
-
 /// The header word of sequence number 0 in format 1, and what a format more adds to it.
 const FIRST_HEADER: u32 = 1 << 28;
 
@@ -12,22 +10,19 @@ pub const FORMAT: u8 = 2;
 /// The greatest sequence number, of 28 bits.
 pub const LAST_SEQ: u32 = (1 << 28) - 1;
 
-/// The sequence number that a slot has as a header of either format, if it is one.
-pub fn header_seq(slot: Slot) -> Option<u32> {
-    match slot {
-        Slot::Good(word) if word / FIRST_HEADER == 1 || word / FIRST_HEADER == 2 => {
-            Some(word % FIRST_HEADER)
-        }
-        Slot::Good(_) | Slot::Free | Slot::Spoiled => None,
-    }
+/// Whether a word is a header of either format.
+pub fn is_header(word: u32) -> bool {
+    word / FIRST_HEADER == 1 || word / FIRST_HEADER == 2
 }
 
-/// The format that a slot has as a header: 1 or 2 where it is one.
-pub fn header_format(slot: Slot) -> u8 {
-    match slot {
-        Slot::Good(word) => (word / FIRST_HEADER) as u8,
-        Slot::Free | Slot::Spoiled => 0,
-    }
+/// The sequence number of a header word.
+pub fn seq_of(word: u32) -> u32 {
+    word % FIRST_HEADER
+}
+
+/// The format of a header word.
+pub fn word_format(word: u32) -> u8 {
+    (word / FIRST_HEADER) as u8
 }
 
 /// The header word of a sequence number, of format 2.

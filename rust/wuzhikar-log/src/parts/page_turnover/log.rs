@@ -4,11 +4,10 @@
 mod stepping;
 mod turning;
 
-use crate::parts::page_turnover::header::{FORMAT, header_format};
+use crate::parts::page_turnover::header::{FORMAT, seq_of, word_format};
 use crate::parts::page_turnover::reading::{read_headers, tail};
 use crate::parts::page_turnover::words::Words;
 use crate::parts::flash_model::{NorFlash, PAGE_SLOTS};
-use crate::parts::records::classify;
 pub use stepping::Step;
 pub use turning::TurnRefusal;
 
@@ -100,7 +99,7 @@ impl Log {
         let _pages = flash.pages();
         let headers = read_headers(flash);
         let active = match headers.active {
-            Some((page, seq)) => Some(active_page(flash, page, seq)),
+            Some((page, word)) => Some(active_page(flash, page, word)),
             None => None,
         };
         Log {
@@ -169,7 +168,7 @@ impl Log {
     /// without an active page.
     pub fn words<'a, F: NorFlash>(&self, flash: &'a F) -> Words<'a, F> {
         match self.active {
-            Some(active) => Words::of_page(flash, active.page as usize),
+            Some(active) => Words::of_page(flash, active.page as usize, active.tail),
             None => Words::none(flash),
         }
     }
@@ -180,12 +179,12 @@ fn has_room(active: ActivePage) -> bool {
     active.format == FORMAT && active.tail < PAGE_SLOTS as u16
 }
 
-/// What a log holds of the active page.
-fn active_page<F: NorFlash>(flash: &F, page: usize, seq: u32) -> ActivePage {
+/// What a log holds of the active page, which has this header.
+fn active_page<F: NorFlash>(flash: &F, page: usize, word: u32) -> ActivePage {
     ActivePage {
         page: page as u8,
-        seq,
-        format: header_format(classify(flash.read_slot(page, 0))),
+        seq: seq_of(word),
+        format: word_format(word),
         tail: tail(flash, page),
     }
 }

@@ -2,14 +2,14 @@
 //! What a mount reads of a flash.
 
 use crate::parts::page_turnover::block::{BLOCK_SLOTS, PAGE_BLOCKS, is_free_block};
-use crate::parts::page_turnover::header::header_seq;
+use crate::parts::page_turnover::header::{is_header, seq_of};
 use crate::parts::flash_model::NorFlash;
 use crate::parts::records::{Slot, classify, is_sound};
 
 /// What the slots 0 of all pages say.
 #[derive(Clone, Copy)]
 pub struct Headers {
-    /// The active page and its sequence number.
+    /// The active page and the word of its header.
     pub active: Option<(usize, u32)>,
     /// The lowest page whose slot 0 is not sound.
     pub unsound: Option<usize>,
@@ -21,7 +21,7 @@ pub fn read_headers<F: NorFlash>(flash: &F) -> Headers {
     let mut unsound = None;
     for page in 0..flash.pages() {
         let header = flash.read_slot(page, 0);
-        active = newer(active, page, header_seq(classify(header)));
+        active = newer(active, page, classify(header));
         if unsound.is_none() && !is_sound(header) {
             unsound = Some(page);
         }
@@ -29,14 +29,17 @@ pub fn read_headers<F: NorFlash>(flash: &F) -> Headers {
     Headers { active, unsound }
 }
 
-/// The best page so far, or this one if its sequence number is greater.
-fn newer(best: Option<(usize, u32)>, page: usize, seq: Option<u32>) -> Option<(usize, u32)> {
-    let Some(seq) = seq else {
+/// The best page so far, or this one if it has a header with a greater sequence number.
+fn newer(best: Option<(usize, u32)>, page: usize, slot: Slot) -> Option<(usize, u32)> {
+    let Slot::Good(word) = slot else {
         return best;
     };
+    if !is_header(word) {
+        return best;
+    }
     match best {
-        Some((_, greatest)) if greatest >= seq => best,
-        _ => Some((page, seq)),
+        Some((_, greatest)) if seq_of(greatest) >= seq_of(word) => best,
+        _ => Some((page, word)),
     }
 }
 

@@ -2,7 +2,7 @@
 //! An iterator over the words of a page.
 
 use crate::parts::page_turnover::block::{BLOCK_SLOTS, good_in_block};
-use crate::parts::flash_model::{NorFlash, PAGE_SLOTS};
+use crate::parts::flash_model::NorFlash;
 use crate::parts::records::Slot;
 
 /// The Good words of a page that are left, in rising order of their slots.
@@ -10,21 +10,24 @@ use crate::parts::records::Slot;
 pub struct Words<'a, F: NorFlash> {
     flash: &'a F,
     page: usize,
-    /// The next slot, 512 at the end.
+    /// The next slot.
     next: u32,
+    /// The slot behind the last one, at most 512.
+    end: u32,
     /// Which slots of the next one's block are Good, from it on; at a block's first slot still to be
     /// read.
     good: u8,
 }
 
 impl<'a, F: NorFlash> Words<'a, F> {
-    /// The words of slots 1 to 511 of a page.
-    pub(crate) fn of_page(flash: &'a F, page: usize) -> Words<'a, F> {
+    /// The words of the slots from 1 up to this one of a page.
+    pub(crate) fn of_page(flash: &'a F, page: usize, end: u16) -> Words<'a, F> {
         let good = good_in_block(flash, page, 0) / 2;
         Words {
             flash,
             page,
             next: 1,
+            end: end as u32,
             good,
         }
     }
@@ -35,7 +38,8 @@ impl<'a, F: NorFlash> Words<'a, F> {
         Words {
             flash,
             page: 0,
-            next: PAGE_SLOTS as u32,
+            next: 0,
+            end: 0,
             good: 0,
         }
     }
@@ -46,7 +50,8 @@ impl<'a, F: NorFlash> Iterator for Words<'a, F> {
 
     #[inline(always)]
     fn next(&mut self) -> Option<u32> {
-        for slot in self.next..PAGE_SLOTS as u32 {
+        let end = self.end;
+        for slot in self.next..end {
             let good = good_from(self.flash, self.page, slot, self.good);
             self.next = slot + 1;
             self.good = good / 2;

@@ -10,7 +10,8 @@ use crate::rattle::alloc::{AllocError, Global};
 
 /// What is kept beside the fields.
 pub trait Beside {
-    /// Takes an item, after those that this state stands for.
+    /// Takes an item, after those that this state stands for. Memory is wanted only at a data item, a Collection, a Push, and an
+    /// item that the parser skips.
     fn take(&mut self, item: &Item<'_>, before: &State) -> Result<(), AllocError>;
 }
 
@@ -24,6 +25,8 @@ pub enum Refusal {
 }
 
 /// Parses a report descriptor as [`parse`](crate::parse) does, and gives each item to what is kept beside the fields.
+///
+/// A fault of an item comes before the memory that was wanted for it beside.
 pub fn parse_beside<B: Beside>(
     alloc: Global,
     text: &[u8],
@@ -33,12 +36,13 @@ pub fn parse_beside<B: Beside>(
     let mut at = 0;
     let mut rest = text;
     while let Some((item, after, _)) = cut(at, rest) {
-        if beside.take(&item, &state).is_err() {
-            return Err(Refusal::Memory);
-        }
+        let kept = beside.take(&item, &state);
         match take_item(&mut state, &item, rest.len() - after.len()) {
             Ok(offset) => at = offset,
             Err(error) => return Err(Refusal::Parse(error)),
+        }
+        if kept.is_err() {
+            return Err(Refusal::Memory);
         }
         rest = after;
     }

@@ -8,7 +8,7 @@ pub fn number_at(bytes: &[u8], bit: u64, size: u8) -> u32 {
     if size == 1 {
         return bit_at(bytes, bit);
     }
-    let window = window(bytes, (bit / 8) as usize) >> (bit % 8);
+    let window = window(bytes, bit / 8) >> (bit % 8);
     (window & ((1 << size) - 1)) as u32
 }
 
@@ -23,24 +23,27 @@ pub(crate) fn byte_or_number_at(bytes: &[u8], bit: u64, size: u8) -> u32 {
 
 /// A bit of the report, 0 or 1.
 fn bit_at(bytes: &[u8], bit: u64) -> u32 {
-    match bytes.get((bit / 8) as usize) {
-        Some(byte) => (*byte >> (bit % 8)) as u32 & 1,
-        None => 0,
-    }
+    byte_at(bytes, bit / 8) >> (bit % 8) & 1
 }
 
 /// A byte of the report, 0 past its end.
-fn byte_at(bytes: &[u8], index: u64) -> u32 {
-    match bytes.get(index as usize) {
-        Some(byte) => *byte as u32,
-        None => 0,
+// Compared before the cast, which loses bits where a `usize` has 32.
+#[inline(always)]
+pub fn byte_at(bytes: &[u8], index: u64) -> u32 {
+    if index < bytes.len() as u64 {
+        bytes[index as usize] as u32
+    } else {
+        0
     }
 }
 
 /// The number that five bytes make from `first` on, the low byte first; those past the end of the report are 0.
 #[inline(always)]
-pub fn window(bytes: &[u8], first: usize) -> u64 {
-    match bytes.get(first..) {
+fn window(bytes: &[u8], first: u64) -> u64 {
+    if first >= bytes.len() as u64 {
+        return 0;
+    }
+    match bytes.get(first as usize..) {
         Some([a, b, c, d, e, ..]) => u64::from_le_bytes([*a, *b, *c, *d, *e, 0, 0, 0]),
         Some(rest) => unsigned(rest),
         None => 0,

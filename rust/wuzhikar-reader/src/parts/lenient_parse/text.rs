@@ -9,7 +9,7 @@ use crate::rattle::alloc::Global;
 /// faults of the strict reader that were passed over, in order.
 ///
 /// A text that the strict reader takes gets its answer, with no fault. The error is the first fault that is left; `Memory` comes
-/// where a growth was refused.
+/// where a growth was refused, with the offset of the item that wanted it, or that of the first fault, which the growth was to pass.
 pub fn parse_lenient(
     alloc: Global,
     text: &[u8],

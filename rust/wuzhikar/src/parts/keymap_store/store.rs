@@ -165,28 +165,21 @@ impl<D: Defaults> StoreOf<D> {
 
     /// Appends the record of a command.
     fn append<F: NorFlash>(&mut self, flash: &mut F, command: CommandWord) -> Work {
-        match self.log.step(flash) {
+        self.job = Job::Resting;
+        match self.log.step_append(flash) {
             Step::Committed => {
                 self.keymap.apply(command.command());
-                self.job = Job::Resting;
                 Work::Settled
             }
-            Step::Failed => {
-                self.job = Job::Resting;
-                Work::Failed
-            }
+            Step::Failed => Work::Failed,
             Step::Idle | Step::Moved => unreachable!(),
         }
     }
 
     /// Goes on with a compaction; its commit makes room for the command.
     fn turn<F: NorFlash>(&mut self, flash: &mut F, command: CommandWord, from: u16) -> Work {
-        let from = offer_next(&mut self.log, &self.keymap, from);
-        match self.log.step(flash) {
-            Step::Moved => {
-                go_on(&mut self.job, from);
-                Work::Working
-            }
+        match step_turn(&mut self.log, &self.keymap, &mut self.job, flash, from) {
+            Step::Moved => Work::Working,
             Step::Committed => {
                 self.log.begin_append(command.word());
                 self.job = Job::Appending(command);
@@ -209,21 +202,27 @@ fn go_on(job: &mut Job, from: u16) {
     }
 }
 
-/// Offers a waiting compaction the next entry at or after a place that differs from the default, or its
-/// commit header where there is none, and says from which place on the next one is looked for.
-fn offer_next<D: Defaults>(log: &mut Log, keymap: &KeymapOf<D>, from: u16) -> u16 {
+/// Makes the next step of a compaction. One that waits is offered the next entry at or after a place that differs from the
+/// default, or its commit header where there is none; the job then looks for its next entry behind that one.
+#[inline(always)]
+fn step_turn<D: Defaults, F: NorFlash>(
+    log: &mut Log,
+    keymap: &KeymapOf<D>,
+    job: &mut Job,
+    flash: &mut F,
+    from: u16,
+) -> Step {
     if !log.wants() {
-        return from;
+        return log.step_turn(flash);
     }
     match keymap.next_changed(from) {
         Some((place, command)) => {
-            let word = command.word();
-            log.offer_copy(word);
-            place + 1
+            go_on(job, place + 1);
+            log.step_copy(flash, command.word())
         }
         None => {
             log.seal();
-            from
+            log.step_turn(flash)
         }
     }
 }

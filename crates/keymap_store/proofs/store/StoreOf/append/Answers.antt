@@ -8,49 +8,49 @@ use Rattle.keymap_store.proofs.store.StoreOf.append.Goals as goal
 pub returns-in-Committed-clause-leaves : goal.returns-in-Committed-clause-leaves
 returns-in-Committed-clause-leaves g c =
     let old = g.F.NorFlash.image c.args.flash.now in
-    let new = g.F.NorFlash.image c.step.new.flash in
+    let new = g.F.NorFlash.image c.step_append.new.flash in
     let m = rw (← c.self.view_is) at c.requires.mirrors in
     let j = rw (← c.self.view_is) at c.requires.job in
     let made = c.in-Committed.is in
-    let commits = c.step.ensures.committed made in
+    let commits = c.step_append.ensures.steps.committed made in
     rw (← c.self.view_is) (record {
-      mirrors = appended g.D.Defaults.defaults old _ c.args.command c.step.result new c.step.new.self c.apply.new.self m j made c.step.ensures.ends commits (rw c.command.ensures at c.apply.ensures.refines);
+      mirrors = appended g.D.Defaults.defaults old _ c.args.command c.step_append.result new c.step_append.new.self c.apply.new.self m j made c.step_append.ensures.steps.ends commits (rw c.command.ensures at c.apply.ensures.refines);
       works = record { command = c.args.command; was = rw j refl; done = refl; changes = λ entries h. rw c.command.ensures at (c.apply.ensures.entries entries h) };
-      attempts = append_settled g.D.Defaults.defaults old _ c.args.command c.step.result new m j c.step.ensures.attempts made;
-      writes = append_writes g.D.Defaults.defaults old _ c.args.command c.step.result new c.step.new.self m j made c.step.ensures.ends commits;
-      operates = λ idle failed. c.step.ensures.operates (λ e. cc) (λ e. cc);
+      attempts = append_settled g.D.Defaults.defaults old _ c.args.command c.step_append.result new m j c.step_append.ensures.steps.attempts made;
+      writes = append_writes g.D.Defaults.defaults old _ c.args.command c.step_append.result new c.step_append.new.self m j made c.step_append.ensures.steps.ends commits;
+      operates = λ idle failed. c.step_append.ensures.steps.operates (λ e. cc);
       torn = λ f. cc;
-      sound = c.step.ensures.usable;
+      sound = λ u. c.step_append.ensures.steps.usable;
     })
 
 pub returns-in-Failed-clause-leaves : goal.returns-in-Failed-clause-leaves
 returns-in-Failed-clause-leaves g c =
     let old = g.F.NorFlash.image c.args.flash.now in
-    let new = g.F.NorFlash.image c.step.new.flash in
+    let new = g.F.NorFlash.image c.step_append.new.flash in
     let m = rw (← c.self.view_is) at c.requires.mirrors in
     let j = rw (← c.self.view_is) at c.requires.job in
     let fails = c.in-Failed.is in
     rw (← c.self.view_is) (record {
-      mirrors = failed g.D.Defaults.defaults old _ _ c.step.result new c.step.new.self m fails c.step.ensures.ends;
+      mirrors = failed g.D.Defaults.defaults old _ _ c.step_append.result new c.step_append.new.self m fails c.step_append.ensures.steps.ends;
       works = record { some = rw j refl; gone = refl; same_keymap = refl };
-      attempts = append_failed g.D.Defaults.defaults old _ c.args.command c.step.result new m j c.step.ensures.attempts fails;
-      writes = append_fails g.D.Defaults.defaults old _ c.args.command c.step.result new c.step.new.self m j fails c.step.ensures.ends c.step.ensures.attempts;
+      attempts = append_failed g.D.Defaults.defaults old _ c.args.command c.step_append.result new m j c.step_append.ensures.steps.attempts fails;
+      writes = append_fails g.D.Defaults.defaults old _ c.args.command c.step_append.result new c.step_append.new.self m j fails c.step_append.ensures.steps.ends c.step_append.ensures.steps.attempts;
       operates = λ idle failed. absurd (failed refl);
-      torn = λ f. c.step.ensures.torn fails;
-      sound = c.step.ensures.usable;
+      torn = λ f. c.step_append.ensures.steps.torn fails;
+      sound = λ u. c.step_append.ensures.steps.usable;
     })
 
 pub returns-in-Committed-clause-operated : goal.returns-in-Committed-clause-operated
 returns-in-Committed-clause-operated g c operation e =
     let old = g.F.NorFlash.image c.args.flash.now in
     let next = append_next g.D.Defaults.defaults old _ c.args.command (rw (← c.self.view_is) at c.requires.mirrors) (rw (← c.self.view_is) at c.requires.job) in
-    c.step.ensures.operated operation (sym next ∙ rw (← c.self.view_is) at e)
+    c.step_append.ensures.operated operation (sym next ∙ rw (← c.self.view_is) at e)
 
 pub returns-in-Failed-clause-operated : goal.returns-in-Failed-clause-operated
 returns-in-Failed-clause-operated g c operation e =
     let old = g.F.NorFlash.image c.args.flash.now in
     let next = append_next g.D.Defaults.defaults old _ c.args.command (rw (← c.self.view_is) at c.requires.mirrors) (rw (← c.self.view_is) at c.requires.job) in
-    c.step.ensures.operated operation (sym next ∙ rw (← c.self.view_is) at e)
+    c.step_append.ensures.operated operation (sym next ∙ rw (← c.self.view_is) at e)
 
 pub returns-in-Committed-clause-order : goal.returns-in-Committed-clause-order
 returns-in-Committed-clause-order g c =
@@ -62,9 +62,9 @@ returns-in-Failed-clause-order g c = failed_order _
 pub returns-in-Committed-clause-faultless : goal.returns-in-Committed-clause-faultless
 returns-in-Committed-clause-faultless g c f =
     let a = appending g.D.Defaults.defaults (g.F.NorFlash.image c.args.flash.now) _ c.args.command (rw (← c.self.view_is) at c.requires.mirrors) (rw (← c.self.view_is) at c.requires.job) in
-    ((c.step.ensures.faultless f (rw a.task_is (record_short c.args.command a.reads_back))).0, λ e. cc)
+    ((c.step_append.ensures.faultless f (rw a.task_is (record_short c.args.command a.reads_back))).0, λ e. cc)
 
 pub returns-in-Failed-clause-faultless : goal.returns-in-Failed-clause-faultless
 returns-in-Failed-clause-faultless g c f =
     let a = appending g.D.Defaults.defaults (g.F.NorFlash.image c.args.flash.now) _ c.args.command (rw (← c.self.view_is) at c.requires.mirrors) (rw (← c.self.view_is) at c.requires.job) in
-    absurd ((c.step.ensures.faultless f (rw a.task_is (record_short c.args.command a.reads_back))).1 c.in-Failed.is)
+    absurd ((c.step_append.ensures.faultless f (rw a.task_is (record_short c.args.command a.reads_back))).1 c.in-Failed.is)

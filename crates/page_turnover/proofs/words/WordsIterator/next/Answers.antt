@@ -8,7 +8,7 @@ use Rattle.page_turnover.proofs.words.WordsIterator.next.Goals as goal
 
 pub invariant_of-self-then-good-eq1 : goal.invariant_of-self-then-good-eq1
 invariant_of-self-then-good-eq1 g c =
-    (c.loop-slot.invariant.in_pages, good_next (g.F.NorFlash.image c.loop-slot.self-inside.flash.now) c.loop-slot.self-inside.page c.loop-slot.slot c.good_from-good.result c.good_from-good.ensures)
+    (c.loop-slot.invariant.in_pages, c.loop-slot.invariant.in_page, good_next (g.F.NorFlash.image c.loop-slot.self-inside.flash.now) c.loop-slot.self-inside.page c.loop-slot.slot c.good_from-good.result c.good_from-good.ensures)
 
 pub loop-slot-preserved : goal.loop-slot-preserved
 loop-slot-preserved g c =
@@ -20,6 +20,8 @@ loop-slot-preserved g c =
     record {
       placed = refl;
       in_pages = c.loop-slot.invariant.in_pages;
+      in_page = c.loop-slot.invariant.in_page;
+      same_end = c.loop-slot.invariant.same_end;
       good = good_next image page slot good c.good_from-good.ensures;
-      same_left = sym (rw none at (words_after_less image page slot c.loop-slot-test.true)) ∙ c.loop-slot.invariant.same_left;
+      same_left = sym (rw none at (words_after_less image page slot c.loop-slot.self-inside.end (rw c.loop-slot.invariant.same_end c.loop-slot-test.true))) ∙ c.loop-slot.invariant.same_left;
     }

@@ -2,8 +2,8 @@
 //! The steps of a log: one flash operation each.
 
 use super::{ActivePage, Log, Target, Task};
+use crate::parts::page_turnover::attempt::{erase, program};
 use crate::parts::page_turnover::header::{FORMAT, header};
-use crate::parts::page_turnover::operation::{Operation, make};
 use crate::parts::page_turnover::reading::{is_blank, is_free};
 use crate::parts::flash_model::{NorFlash, PAGE_SLOTS};
 
@@ -36,117 +36,93 @@ impl Log {
     /// counts as done; where it does not, and only there, the answer is `Failed`. The words are then
     /// as before; an append or a compaction has to be begun anew, and a compaction then erases what it wrote.
     pub fn step<F: NorFlash>(&mut self, flash: &mut F) -> Step {
-        let Some(operation) = self.next(flash) else {
-            return Step::Idle;
-        };
-        if make(flash, operation) {
-            self.advance(operation)
-        } else {
-            self.fail(flash)
-        }
-    }
-
-    /// The operation that the next step makes, if anything is pending.
-    #[inline(always)]
-    fn next<F: NorFlash>(&self, flash: &F) -> Option<Operation> {
-        match self.task {
-            Task::Rest | Task::Wait(_) => None,
-            Task::Append(word) => self.next_append(word),
-            Task::Copy(target, word) => {
-                let slot = copies_of(target) + 1;
-                Some(self.on_target(flash, target, slot, word))
-            }
-            Task::Seal(target) => {
-                let word = header(self.next_seq());
-                Some(self.on_target(flash, target, 0, word))
-            }
-        }
-    }
-
-    /// A word goes to the tail slot.
-    fn next_append(&self, word: u32) -> Option<Operation> {
-        match self.active {
-            Some(active) => Some(Operation::Program(active.page, active.tail, word)),
-            None => None,
-        }
-    }
-
-    /// A word goes to a slot of a compaction's target, or the target is erased first.
-    fn on_target<F: NorFlash>(&self, flash: &F, target: Target, slot: u16, word: u32) -> Operation {
-        let page = self.target(flash);
-        if is_ready(flash, page, target) {
-            Operation::Program(page, slot, word)
-        } else {
-            Operation::Erase(page)
-        }
-    }
-
-    /// Takes what an operation did that was made whole, where the log lies.
-    #[inline(always)]
-    fn advance(&mut self, operation: Operation) -> Step {
         match self.task {
             Task::Rest | Task::Wait(_) => Step::Idle,
-            Task::Append(_) => self.advance_append(),
-            Task::Copy(target, word) => self.advance_copy(target, word, operation),
-            Task::Seal(target) => self.advance_seal(target, operation),
+            Task::Append(_) => self.step_append(flash),
+            Task::Copy(..) | Task::Seal(_) => self.step_turn(flash),
         }
     }
 
-    /// The tail slot is used.
-    fn advance_append(&mut self) -> Step {
+    /// Makes the append that is under way, as `step` does.
+    pub(crate) fn step_append<F: NorFlash>(&mut self, flash: &mut F) -> Step {
+        let Task::Append(word) = self.task else {
+            unreachable!()
+        };
         let Some(active) = self.active else {
             unreachable!()
         };
-        self.active = Some(ActivePage {
-            page: active.page,
-            seq: active.seq,
-            format: active.format,
-            tail: active.tail + 1,
-        });
+        if !program(flash, active.page, active.tail, word) {
+            return self.fail(flash);
+        }
+        use_tail(&mut self.active);
         self.task = Task::Rest;
         Step::Committed
     }
 
-    /// The target holds one copy more, or was erased for the first one.
-    fn advance_copy(&mut self, target: Target, word: u32, operation: Operation) -> Step {
-        match operation {
-            Operation::Program(..) => {
-                self.task = Task::Wait(Target::Holds(copies_of(target) + 1));
-                Step::Moved
-            }
-            Operation::Erase(_) => {
-                self.task = Task::Copy(Target::Holds(0), word);
-                Step::Moved
-            }
+    /// Offers the next word to copy to a compaction that wants one and has made fewer than 511 copies, and makes the step:
+    /// `offer_copy` and `step` as one call.
+    #[inline(always)]
+    pub(crate) fn step_copy<F: NorFlash>(&mut self, flash: &mut F, word: u32) -> Step {
+        if let Task::Wait(Target::Holds(copied)) = self.task {
+            return self.put(flash, copied, word);
         }
+        self.offer_copy(word);
+        self.step_turn(flash)
     }
 
-    /// The target is the active page, or was erased for its header.
-    fn advance_seal(&mut self, target: Target, operation: Operation) -> Step {
-        match operation {
-            Operation::Program(page, _, _) => {
+    /// Makes the copy or the commit header that a compaction was offered, as `step` does.
+    pub(crate) fn step_turn<F: NorFlash>(&mut self, flash: &mut F) -> Step {
+        let (target, next) = offer_of(self.task);
+        let page = self.target(flash);
+        if !is_ready(flash, page, target) {
+            if !erase(flash, page) {
+                return self.fail(flash);
+            }
+            self.task = task_of(Target::Holds(0), next);
+            return Step::Moved;
+        }
+        let slot = copies_of(target) + 1;
+        match next {
+            Some(word) => {
+                if !program(flash, page, slot, word) {
+                    return self.fail(flash);
+                }
+                self.task = Task::Wait(Target::Holds(slot));
+                Step::Moved
+            }
+            None => {
+                let seq = self.next_seq();
+                if !program(flash, page, 0, header(seq)) {
+                    return self.fail(flash);
+                }
                 self.active = Some(ActivePage {
                     page,
-                    seq: self.next_seq(),
+                    seq,
                     format: FORMAT,
-                    tail: copies_of(target) + 1,
+                    tail: slot,
                 });
                 self.task = Task::Rest;
                 Step::Committed
             }
-            Operation::Erase(_) => {
-                self.task = Task::Seal(Target::Holds(0));
-                Step::Moved
-            }
         }
+    }
+
+    /// A copy goes to the slot after those before it.
+    #[inline(always)]
+    fn put<F: NorFlash>(&mut self, flash: &mut F, copied: u16, word: u32) -> Step {
+        let page = self.target(flash);
+        if !program(flash, page, copied + 1, word) {
+            return self.fail(flash);
+        }
+        self.task = Task::Wait(Target::Holds(copied + 1));
+        Step::Moved
     }
 
     /// Ends what is under way: its operation does not read as intended.
     fn fail<F: NorFlash>(&mut self, flash: &F) -> Step {
-        self.active = match self.active {
-            Some(active) => Some(passed_over(flash, active)),
-            None => None,
-        };
+        if let Some(active) = &mut self.active {
+            pass_over(flash, active);
+        }
         self.task = Task::Rest;
         Step::Failed
     }
@@ -175,18 +151,39 @@ fn page_after(page: u8, pages: usize) -> u8 {
     if (next as usize) < pages { next } else { 0 }
 }
 
-/// The active page after a fault: a tail slot that is no longer Free is used up.
-fn passed_over<F: NorFlash>(flash: &F, active: ActivePage) -> ActivePage {
-    if active.tail >= PAGE_SLOTS as u16
-        || is_free(flash, active.page as usize, active.tail as u32)
+/// Passes over the tail slot of the active page after a fault, if it is no longer Free.
+fn pass_over<F: NorFlash>(flash: &F, active: &mut ActivePage) {
+    if active.tail < PAGE_SLOTS as u16
+        && !is_free(flash, active.page as usize, active.tail as u32)
     {
-        return active;
+        active.tail += 1;
     }
-    ActivePage {
-        page: active.page,
-        seq: active.seq,
-        format: active.format,
-        tail: active.tail + 1,
+}
+
+/// One slot more of the active page is used.
+#[inline(always)]
+fn use_tail(active: &mut Option<ActivePage>) {
+    if let Some(active) = active {
+        active.tail += 1;
+    }
+}
+
+/// What a compaction was offered: its target, and the word to copy, or none for its commit header.
+#[inline(always)]
+fn offer_of(task: Task) -> (Target, Option<u32>) {
+    match task {
+        Task::Copy(target, word) => (target, Some(word)),
+        Task::Seal(target) => (target, None),
+        Task::Rest | Task::Append(_) | Task::Wait(_) => unreachable!(),
+    }
+}
+
+/// A compaction to this target that was offered a word to copy, or its commit header.
+#[inline(always)]
+fn task_of(target: Target, next: Option<u32>) -> Task {
+    match next {
+        Some(word) => Task::Copy(target, word),
+        None => Task::Seal(target),
     }
 }
 
