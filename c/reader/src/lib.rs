@@ -2,7 +2,7 @@
 //! The reader of HID report descriptors and reports behind a C ABI. `hid_reader.h` says of each call what it takes, gives
 //! and refuses.
 //!
-//! [`calls`], [`details`] and [`values`] are the calls of the header, [`handles`] and [`table`] keep what handles stand for,
+//! [`calls`], [`details`], [`values`], [`views`] and [`raw`] are the calls of the header, [`handles`] and [`table`] keep what handles stand for,
 //! [`names`] has the names of faults and statuses. [`edge`] has the only `unsafe` blocks: reading and writing behind the pointers of a caller. Written by hand:
 //! tested, not proved.
 #![deny(unsafe_code, clippy::undocumented_unsafe_blocks)]
@@ -15,7 +15,11 @@ mod details;
 mod edge;
 mod handles;
 mod names;
+#[allow(unsafe_code)] // the names that the linker sees, and nothing else
+mod raw;
 mod status;
 mod table;
 #[allow(unsafe_code)] // the names that the linker sees, and nothing else
 mod values;
+#[allow(unsafe_code)] // the same
+mod views;

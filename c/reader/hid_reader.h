@@ -367,6 +367,103 @@ typedef struct hidr_setting {
 hidr_status hidr_write(hidr_reader reader, uint8_t kind, uint8_t id, const hidr_setting *settings, size_t count,
                        const uint8_t *onto, size_t onto_length, uint8_t *into, size_t room, size_t *length, size_t *which);
 
+/* The same of a usage: sets the first `count` controls that have it to these values. It refuses what hidr_write refuses, where the
+ * number of a setting is that of the value. */
+hidr_status hidr_write_all(hidr_reader reader, uint8_t kind, uint8_t id, uint32_t usage, const int64_t *values, size_t count,
+                           const uint8_t *onto, size_t onto_length, uint8_t *into, size_t room, size_t *length, size_t *which);
+
+/* Reads the value of each control of a report that has a usage, in their order: each place of a variable field, and 1 for each
+ * place of an array that names it. It refuses what hidr_read refuses but HIDR_OVERLAP, and takes memory as
+ * the views do. */
+hidr_status hidr_read_all(hidr_reader reader, uint8_t kind, const uint8_t *report, size_t length, uint32_t usage, int64_t *into,
+                          size_t room, size_t *count);
+
+/* Puts a number into the bits of a place of a field of a whole report, whatever the logical extents are; there are devices that
+ * declare 0 to 0. No other bit changes. It refuses what hidr_read refuses of the report; HIDR_ABSENT if the report has no such
+ * field, or the field no such place; HIDR_TOO_LARGE if the number has more bits. */
+hidr_status hidr_put_raw(hidr_reader reader, uint8_t kind, uint8_t *report, size_t length, size_t field, uint16_t place,
+                         uint32_t number);
+
+/* Puts bytes into a field of a whole report from its first bit on; no other bit changes, and bits behind the field's end have to
+ * be 0. HIDR_NO_MEMORY; then it refuses as hidr_put_raw. */
+hidr_status hidr_put_bytes(hidr_reader reader, uint8_t kind, uint8_t *report, size_t length, size_t field, const uint8_t *bytes,
+                           size_t count);
+
+/* Makes a report of a kind and ID, 0 where none is used, with these bytes behind the ID, and 0 where there are fewer: its first
+ * `room` bytes. It takes memory as the views do. HIDR_UNKNOWN_REPORT; HIDR_TOO_LARGE if the report has fewer bytes. */
+hidr_status hidr_raw_report(hidr_reader reader, uint8_t kind, uint8_t id, const uint8_t *bytes, size_t count, uint8_t *into,
+                            size_t room, size_t *length);
+
+/* Views: what a device is, in an input report of it. Each refuses what hidr_read refuses but HIDR_OVERLAP, and takes memory as
+ * malloc gives it: without any the process ends.
+ *
+ * A value of an axis. Where the report has none, or one outside of its extents (but that of a pointer), is_there is 0. Where a
+ * number has no meaning, as millimetres where the unit is no length, it is NAN. */
+typedef struct hidr_axis {
+    double share;       /* between the logical extents, 0 to 1 */
+    double centred;     /* from their middle, -1 to 1 */
+    double millimetres; /* (HID 1.11, 6.2.2.7) */
+    double degrees;
+    int64_t raw, min, max; /* the number, and its logical extents */
+    uint8_t is_there;
+    uint8_t is_relative; /* it is added to the last one */
+} hidr_axis;
+
+/* Keys that are down: usages of the keyboard page, the consumer page and the system controls, rising. *is_error is 1 where
+ * ErrorRollOver, POSTFail or ErrorUndefined says that the report does not know; it may be null. */
+hidr_status hidr_view_keys(hidr_reader reader, const uint8_t *report, size_t length, uint32_t *into, size_t room, size_t *count,
+                           uint8_t *is_error);
+
+/* A mouse, a trackball or a touchpad that plays one. Button n is bit n - 1 of the first word, from 65 on of the second. */
+typedef struct hidr_pointer {
+    hidr_axis x, y;
+    int64_t wheel, pan; /* steps away from the user, and to the right */
+    uint64_t buttons[2];
+} hidr_pointer;
+hidr_status hidr_view_pointer(hidr_reader reader, const uint8_t *report, size_t length, hidr_pointer *into);
+
+/* A direction of a hat switch: the step from 0 for up, clockwise, of how many; 0 of 0 at rest. */
+typedef struct hidr_hat {
+    uint64_t step, of;
+} hidr_hat;
+
+/* A slider, a pedal or the like, of Generic Desktop or Simulation Controls. */
+typedef struct hidr_control {
+    hidr_axis axis;
+    uint32_t usage;
+} hidr_control;
+
+/* A gamepad, a joystick or a wheel. No descriptor says where an axis rests. */
+typedef struct hidr_pad {
+    hidr_axis axes[6]; /* X, Y, Z, Rx, Ry, Rz */
+    uint64_t buttons[2];
+    hidr_hat hats[4];
+    hidr_control others[8];
+    uint32_t hat_count, other_count; /* how many there are, which may be more */
+} hidr_pad;
+hidr_status hidr_view_pad(hidr_reader reader, const uint8_t *report, size_t length, hidr_pad *into);
+
+/* A finger on a touch screen or a touchpad. */
+typedef struct hidr_contact {
+    hidr_axis x, y, pressure;
+    int64_t id;       /* Contact Identifier, the same from report to report */
+    uint8_t has_id;
+    uint8_t touches;  /* Tip Switch */
+    uint8_t is_valid; /* Touch Valid: 0, 1, and 2 where it is not told */
+} hidr_contact;
+
+/* The contacts of a report: one for each Finger collection, at most so many as Contact Count says where that is not 0. */
+hidr_status hidr_view_touch(hidr_reader reader, const uint8_t *report, size_t length, hidr_contact *into, size_t room,
+                            size_t *count);
+
+/* A pen. Where it is not in range the rest says nothing. */
+typedef struct hidr_pen {
+    hidr_axis x, y, pressure, tilt[2];
+    uint8_t in_range, touches, erases, is_inverted;
+    uint8_t buttons[2]; /* Barrel Switch, and the second one */
+} hidr_pen;
+hidr_status hidr_view_pens(hidr_reader reader, const uint8_t *report, size_t length, hidr_pen *into, size_t room, size_t *count);
+
 /* Return the name of a fault, as "EndWithoutCollection", and of a status, as "Closed"; "" of another number. Names
  * stay valid. */
 const char *hidr_fault_name(uint32_t fault);

@@ -32,6 +32,39 @@ impl Input {
     }
 }
 
+impl Input {
+    /// A copy of the bytes, for a call that writes where they may stand. `NoMemory` where there is none.
+    pub fn owned(&self, length: usize) -> Result<Vec<u8>, Status> {
+        let bytes = self.bytes(length)?;
+        let mut owned = Vec::new();
+        owned.try_reserve_exact(bytes.len()).map_err(|_| Status::NoMemory)?;
+        owned.extend_from_slice(bytes);
+        Ok(owned)
+    }
+}
+
+/// Where bytes stand that a call reads and changes.
+#[repr(transparent)]
+pub struct Shared(*mut u8);
+
+impl Shared {
+    /// The bytes. `Null` where there are some behind a null pointer, `Length` for more than memory can hold.
+    pub fn bytes(&mut self, length: usize) -> Result<&mut [u8], Status> {
+        if length == 0 {
+            return Ok(&mut []);
+        }
+        if self.0.is_null() {
+            return Err(Status::Null);
+        }
+        if isize::try_from(length).is_err() {
+            return Err(Status::Length);
+        }
+        // SAFETY: the caller owes `length` bytes behind the pointer, which is not null and whose bytes nobody else reads or
+        // writes during the call; their number fits into `isize`. Each call asks once, and copies what else it reads before.
+        Ok(unsafe { core::slice::from_raw_parts_mut(self.0, length) })
+    }
+}
+
 /// Where a call writes one value.
 #[repr(transparent)]
 pub struct Output<T>(*mut T);
