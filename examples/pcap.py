@@ -14,6 +14,7 @@ SET_ADDRESS and SET_CONFIGURATION are no part of a script.
 
 import argparse
 import os
+import re
 import struct
 import subprocess
 import sys
@@ -26,6 +27,15 @@ LONGEST_REPORT = 64
 
 SET_FEATURE = bytes.fromhex("2109030300000600")
 GET_REPORT_DESCRIPTOR = bytes.fromhex("8106002200006300")
+
+# What may be printed of a line, by its first word.
+BYTES, PACKET = "(?:[0-9a-f]{2})+", r"ack|nak|stall \d+"
+ANSWERS = {
+    "poll": f"nak|report {BYTES} (?:read .+|unread)", "setup": "ack", "out": PACKET, "in": f"data (?:-|{BYTES})|{PACKET}",
+    "set": f"data -|{PACKET}", "fetch": rf"fetched \d+|{PACKET}", "entry": BYTES, "slot": BYTES, "leds": BYTES,
+    **dict.fromkeys(("scan", "scans", "reset"), "ok"), **dict.fromkeys(("cut", "cutwork"), "restart"),
+    **dict.fromkeys(("work", "workfault"), "idle|working|settled|failed"),
+}
 
 
 class Capture:
@@ -84,7 +94,7 @@ class Run:
         self.time += 1 if not word.startswith("scan") else 1000 * (int(rest[0]) if word == "scans" else 1)
         if word == "setup":
             self.give_up(ECONNRESET)
-            self.setup, self.begun = bytes.fromhex(rest[0]), self.time
+            (self.setup,), self.begun = struct.unpack("8s", bytes.fromhex(rest[0])), self.time
         elif word in ("in", "out") and self.setup:
             self.packet(word, bytes.fromhex(rest[0]) if rest else b"", answer)
         elif word == "poll":
@@ -149,7 +159,7 @@ def report_descriptor():
 
 def capture_of(script, answers):
     """The capture of a script, a text, beside what the simulator printed of it."""
-    told = dict(line.split(" ", 1) for line in answers.splitlines())
+    told = dict(line.partition(" ")[::2] for line in answers.splitlines())
     fault = next((line for line in answers.splitlines() if line.startswith("fault")), None)
     if fault:
         sys.exit(f"pcap: the run ended in a fault: {fault}")
@@ -159,7 +169,13 @@ def capture_of(script, answers):
     for number, words in lines:
         if str(number) not in told:
             sys.exit(f"pcap: line {number} of the script has no answer: are these the answers of this script?")
-        run.line(words, told[str(number)])
+        answer = told[str(number)]
+        if not re.fullmatch(ANSWERS.get(words[0], ""), answer):
+            sys.exit(f"pcap: line {number} of the script is {words[0]!r:.40}, and {answer!r:.40} is no answer to it")
+        try:
+            run.line(words, answer)
+        except (ValueError, IndexError, struct.error):
+            sys.exit(f"pcap: line {number} of the script is none that runs: {' '.join(words)!r:.40}")
     run.give_up(ECONNRESET)
     return run.capture
 
@@ -171,12 +187,15 @@ def main():
     words.add_argument("file", metavar="FILE", help="the capture that is written")
     given = words.parse_args()
     texts = []
-    for path in (given.script, given.answers):
-        with open(path, encoding="utf-8", errors="surrogateescape") as file:
-            texts.append(file.read())
-    capture = capture_of(*texts)
-    with open(given.file, "wb") as file:
-        capture.write(file)
+    try:
+        for path in (given.script, given.answers):
+            with open(path, encoding="utf-8", errors="surrogateescape") as file:
+                texts.append(file.read())
+        capture = capture_of(*texts)
+        with open(given.file, "wb") as file:
+            capture.write(file)
+    except OSError as error:
+        sys.exit(f"pcap: {error}")
 
 
 if __name__ == "__main__":

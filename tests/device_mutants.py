@@ -1,4 +1,5 @@
-"""Tries the mutants of tests/device_mutants on the files by hand of rust/wuzhikar-device, whose tests have to kill each of them.
+"""Tries the mutants of tests/device_mutants on the files by hand of rust/wuzhikar-device, whose tests have to kill each of them. Those
+of a driver in examples/ the played host of `testing` has to kill, and to say the seed and the last tokens.
 
 A mutant names a file of the crate, a text that stands there once, and what takes its place. Those in the folder right change the
 code and not what it does: the tests have to pass. Each worker has a copy of rust/ and a target folder of its own, so that a try builds
@@ -61,11 +62,12 @@ class Worker(threading.Thread):
         self.environment = environment(work, *OF_PROGRAM)
         self.environment.update(CARGO_TARGET_DIR=f"{work}/target", HISTORIES="4000", RUST_BACKTRACE="0")
 
-    def cargo(self):
-        """Runs the tests of the crate: the status, None where they hang, and what was printed. The time of the clock says nothing
-        of that, since it is that of the whole machine."""
+    def cargo(self, driver):
+        """Runs the tests of the crate, or of a driver: the status, None where they hang, and what was printed. The time of the clock
+        says nothing of that, since it is that of the whole machine."""
         # Behind `ulimit` each program that is started has so many seconds of the processor for itself.
-        command = ["sh", "-c", f'ulimit -t {SECONDS} && exec "$@"', "-", "cargo", "test", "-q", "-p", "wuzhikar-device", "--lib"]
+        part = ["--example", driver] if driver else ["--lib"]
+        command = ["sh", "-c", f'ulimit -t {SECONDS} && exec "$@"', "-", "cargo", "test", "-q", "-p", "wuzhikar-device", *part]
         made = subprocess.run(command, cwd=self.rust, env=self.environment, text=True, stdout=subprocess.PIPE, stderr=subprocess.STDOUT)
         hangs = re.search(r"SIGXCPU|signal: (9|24)\b", made.stdout)
         return None if hangs else made.returncode, made.stdout
@@ -81,12 +83,14 @@ class Worker(threading.Thread):
     def one(self, path):
         """Tries a mutant: whether it is as it should be, and why."""
         right = os.path.basename(os.path.dirname(path)) == "right"
+        mutant = read_mutant(path)
+        driver = mutant[0].removeprefix("examples/").removesuffix(".rs") if mutant[0].startswith("examples/") else ""
         try:
-            changed, text = apply(read_mutant(path), f"{self.rust}/wuzhikar-device")
+            changed, text = apply(mutant, f"{self.rust}/wuzhikar-device")
         except ValueError as error:
             return False, str(error)
         try:
-            status, found = self.cargo()
+            status, found = self.cargo(driver)
         finally:
             write(changed, text)
         if status is None:
@@ -96,6 +100,8 @@ class Worker(threading.Thread):
         refused = sorted(set(re.findall(r"^    (\S+::\S+)$", found, re.MULTILINE)))
         if status == 0:
             return right, "it survives"
+        if driver and not re.search(r"^seed \d+; the last on the bus:\n  \w", found, re.MULTILINE):
+            return False, "it is killed without the seed and the last tokens"
         return not right and bool(refused), f"killed by {', '.join(refused[:2])}" + (" .." if len(refused) > 2 else "")
 
 

@@ -74,6 +74,8 @@ ENDS = [
     (["parse", "--from", "hex"], "75 08 95 01 81 02", 0, "input 0 0 8 1 0 0 variable -\n", ""),
     (["parse", "--from", "c", "-"], "117,8,149,1,129,2", 0, "input 0 0 8 1 0 0 variable -\n", ""),
     (["parse", "-", "--from=bytes"], "\x75\x08", 0, "", ""),
+    (["run"], "\ufeffin\n", 1, "fault line 1: unknown word\n", "line 1: a byte order mark (EF BB BF) stands before the text\n"),
+    (["run"], "i\0n\0\n\0", 1, "fault line 1: unknown word\n", "line 1: the text is in UTF-16; UTF-8 is wanted\n"),
     (
         ["parse", "--items"],
         "C0\n",
@@ -90,7 +92,7 @@ MISSING = "error: missing can't be opened: No such file or directory (os error 2
 
 def lacks(words):
     """Whether the proved program lacks one of these words."""
-    return any(word.startswith(("--items", "--from")) for word in words if words[0] == "parse")
+    return any(word.startswith(("--items", "--from", "--image", "--save")) for word in words)
 
 
 class Calls(unittest.TestCase):
@@ -174,8 +176,8 @@ class Words(Calls):
         self.addCleanup(os.close, folder)
         self.assertEqual(self.call(["parse"], stdin=folder), (1, "fault input\n", "the text can't be read\n"))
         self.assertEqual(self.call(["run"], stdin=folder), (1, "fault input\n", "the input can't be read\n"))
-        self.ends(1, "fault input\n", ["parse", "."], said="the text can't be read\n")
-        self.ends(1, "fault input\n", ["run", "."], said="the input can't be read\n")
+        self.ends(1, "fault input\n", ["parse", "."], said=".: the text can't be read\n")
+        self.ends(1, "fault input\n", ["run", "."], said=".: the input can't be read\n")
 
     def test_a_full_output_is_reported(self):
         self.write("hex", b"05 01")
@@ -188,6 +190,20 @@ class Words(Calls):
                 status, _, said = self.call(words, "05", stdout=full)
                 told = (MISSING if "missing" in words else "") + "error: the output can't be written\n"
                 self.assertEqual((status, said), ((0, "") if words == ["parse", "hex"] else (1, told)))
+
+    @unittest.skipUnless(IS_PLAIN, "the proved program names it as any other")
+    def test_a_closed_pipe_is_no_error(self):
+        self.write("script", b"in\n" * 20_000)
+        self.write("hex", b"7508 9501 8102")
+        for words in (["describe"], ["run", "script"], ["run", "--explain", "script"], ["run", "missing"], ["parse", "script"],
+                      ["parse", "--from", "bytes", "--items", "script"], ["--help"], ["parse", "--json", "missing"], ["read", "--from", "hex", "hex", "hex"]):
+            with self.subTest(words):
+                reader, writer = os.pipe()
+                os.close(reader)
+                with os.fdopen(writer, "wb") as closed:
+                    status, _, said = self.call(words, stdout=closed)
+                said = "".join(line for line in said.splitlines(True) if not line.startswith("line "))
+                self.assertEqual((status, said), (1, MISSING if "missing" in words else ""))
 
     @unittest.skipUnless(IS_PLAIN, "the proved program prints no items")
     def test_items_that_are_lost_are_reported(self):
@@ -221,11 +237,22 @@ class Words(Calls):
         told = subprocess.run(words, input=script, stdout=subprocess.PIPE, stderr=subprocess.STDOUT, cwd=ROOT, text=True)
         self.assertEqual((told.returncode, told.stdout), (0, shown))
 
+    def test_the_command_of_the_readme(self):
+        # With cargo alone it is run by the program of plain Rust, and with rt alone by the proved one.
+        with open(f"{ROOT}/README.md", encoding="utf-8") as file:
+            found = re.search(r"^```sh\nbin/kbsim (.*)\n```$.*?^```text part\n(.*?)^```$", file.read(), re.M | re.S)
+        words = found[1].split()
+        self.assertEqual(words[:2], ["run", "--explain"])
+        told = subprocess.run([*KBSIM, *words], stdout=subprocess.PIPE, stderr=subprocess.STDOUT, cwd=ROOT, text=True)
+        self.assertEqual(told.returncode, 0)
+        self.assertIn(found[2], told.stdout)
+
     def test_an_explanation_that_can_not_be_written_changes_nothing(self):
         with open("/dev/full", "wb") as full:
             ran = subprocess.run([*KBSIM, "run", "--explain"], input=b"in\nin\n", stdout=subprocess.PIPE, stderr=full, cwd=self.folder)
         self.assertEqual((ran.returncode, ran.stdout), (0, b"1 stall 16\n2 stall 16\n"))
 
+    @unittest.skipUnless(IS_PLAIN, "the proved program saves no flash")
     def test_an_explained_flash_is_saved(self):
         self.ends(0, "1 ack\n", ["run", "--save", "saved"], "set 0 0 0005\n")
         self.ends(0, "1 ack\n", ["run", "--explain", "--save", "explained"], "set 0 0 0005\n")
@@ -240,10 +267,26 @@ class Words(Calls):
 
     def test_what_is_too_long_is_reported(self):
         self.write("long", b"#" * 1_048_577)
-        self.ends(1, "fault too long\n", ["run", "long"], said="the script is longer than 1048576 bytes\n")
-        self.ends(1, "fault too long\n", ["parse", "long"], said="the text is longer than 1048576 bytes\n")
+        self.ends(1, "fault too long\n", ["run", "long"], said="long: the script is longer than 1048576 bytes\n")
+        self.ends(1, "fault too long\n", ["parse", "long"], said="long: the text is longer than 1048576 bytes\n")
 
 
+class Texts(Calls):
+    """What is read from a file."""
+
+    def test_a_text_from_a_file(self):
+        self.write("script", b"set 0 0 0005\nentry 0 0\n")
+        self.write("hex", b"75 08 95 01 81 02")
+        self.ends(0, "1 ack\n2 0005\n", ["run", "script"], "in x\n", "")
+        self.ends(0, "1 ack\n2 0005\n", ["run", "--pages", "3", "script"], "in x\n", "")
+        self.ends(0, "input 0 0 8 1 0 0 variable -\n", ["parse", "hex"], "x", "")
+
+    def test_a_file_that_is_not_there(self):
+        self.ends(1, "fault input\n", ["run", "missing"], "in x\n", MISSING)
+        self.ends(1, "fault input\n", ["parse", "missing"], "x", MISSING)
+
+
+@unittest.skipUnless(IS_PLAIN, "the proved program takes no image")
 class Files(Calls):
     """The flash's image before and after a run."""
 
@@ -252,28 +295,27 @@ class Files(Calls):
             with self.subTest(name):
                 self.write(name, bytes(size))
                 self.ends(1, "fault image\n", ["run", "--image", name], "in x\n")
-        self.ends(1, "fault input\n", ["run", "--image", "."], "in x\n", "the input can't be read\n")
+        self.ends(1, "fault input\n", ["run", "--image", "."], "in x\n", ".: the input can't be read\n")
         self.ends(1, "fault input\n", ["run", "--image", "missing"], "in x\n", MISSING)
 
-    def test_a_text_from_a_file(self):
+    def test_a_text_beside_an_image(self):
         self.write("script", b"set 0 0 0005\nentry 0 0\n")
-        self.write("hex", b"75 08 95 01 81 02")
-        self.ends(0, "1 ack\n2 0005\n", ["run", "script"], "in x\n", "")
         self.ends(0, "1 ack\n2 0005\n", ["run", "--pages", "3", "script", "--save", "saved"], "in x\n", "")
         self.ends(0, "1 0005\n", ["run", "--image", "saved", "-"], "entry 0 0\n", "")
-        self.ends(0, "input 0 0 8 1 0 0 variable -\n", ["parse", "hex"], "x", "")
         self.ends(0, "   0  75 08           Report Size (8)\n", ["parse", "--items", "-"], "75 08", "")
         said = "line 1, column 6: 3 is no page; pages are 0 to 2\n"
         self.ends(1, "fault line 1: bad number\n", ["run", "--image", "saved"], "slot 3 0\n", said)
-
-    def test_a_file_that_is_not_there(self):
-        self.ends(1, "fault input\n", ["run", "missing"], "in x\n", MISSING)
-        self.ends(1, "fault input\n", ["parse", "missing"], "x", MISSING)
+        self.write("pages", b"slot 3 0")
+        self.ends(1, "fault line 1: bad number\n", ["run", "pages", "--image", "saved"], "", f"pages: {said}")
+        self.write("end", b"C0")
+        said = "end: byte 0, item c0: End Collection without Collection\n"
+        for words in (["parse"], ["parse", "--json"], ["read"]):
+            self.ends(1, "fault parse 8 at 0\n", [*words, "end"], "", said)
         self.ends(1, "fault input\n", ["parse", "--items", "missing"], "x", MISSING)
 
     def test_the_image_comes_before_the_script(self):
         self.write("short", bytes(8191))
-        told = "the image is not 2 to 8 pages of 4096 bytes\n"
+        told = "short: the image is not 2 to 8 pages of 4096 bytes\n"
         self.ends(1, "fault image\n", ["run", "--image", "short", "missing"], "", told)
         self.ends(1, "fault image\n", ["run", "--image", "short"], "in x\n", told)
 
@@ -380,6 +422,7 @@ class Examples(Calls):
         self.example(["parse", "--items"], "media_keys.hex", "media_keys.items.expected")
         self.example(["describe"], None, "describe.expected")
 
+    @unittest.skipUnless(IS_PLAIN, "the proved program takes no image")
     def test_scripts_that_start_on_an_image(self):
         for name in ("migration", "turnover"):
             with self.subTest(name):

@@ -54,6 +54,15 @@ class Completions(unittest.TestCase):
                 with self.subTest(name):
                     self.assertEqual(read(name), read(name, folder))
 
+    def test_they_are_installed_with_the_program(self):
+        with tempfile.TemporaryDirectory() as folder:
+            subprocess.run([f"{ROOT}/bin/install", "/usr"], env={**os.environ, "DESTDIR": folder}, stdout=subprocess.PIPE, check=True)
+            places = ("zsh/site-functions/_kbsim", "bash-completion/completions/kbsim", "fish/vendor_completions.d/kbsim.fish", "man/man1/kbsim.1")
+            for name, place in zip(MADE, places, strict=True):
+                self.assertEqual(read(name), read(f"usr/share/{place}", folder))
+            told = subprocess.run([f"{folder}/usr/bin/kbsim", "--version"], stdout=subprocess.PIPE, check=True, text=True).stdout
+            self.assertEqual(told.split(), ["kbsim", *read("VERSION").split()])
+
     def bash(self, *words):
         """What bash completes the last of these words with."""
         script = 'source "$1"; shift; COMP_WORDS=("$@"); COMP_CWORD=$(($# - 1)); _kbsim kbsim "${@: -1}" "${@: -2:1}"; echo "${COMPREPLY[@]}"'
@@ -70,7 +79,9 @@ class Completions(unittest.TestCase):
         self.assertEqual(self.bash("write", "--kind", ""), {"input", "output", "feature"})
 
     def test_the_others(self):
-        if shutil.which("zsh"):
+        with self.subTest("zsh"):
+            if not shutil.which("zsh"):
+                self.skipTest("zsh is not there (Debian: zsh)")
             subprocess.run(["zsh", "-n", f"{ROOT}/completions/_kbsim"], check=True)
         zsh, fish, page = read(MADE[0]), read(MADE[2]), read(MADE[3]).replace("\\-", "-")
         for name, options in self.commands.items():

@@ -1,10 +1,11 @@
 """Runs what the documents show: each fenced program, command and output of README.md, of the pages of docs/ that `SHOWING` names, and
-of the READMEs of examples/.
+of the READMEs of examples/ and c/.
 
 A fence says what it is, and a copy of the repository's folders, called `wuzhikar`, is what it runs on:
 
 - `toml` is what stands in the Cargo.toml of a package beside the copy: it has to resolve. A `rust` program behind it is
   that package's src/main.rs.
+- `c` is a program, which is linked with the library of c/reader where it includes its header, and else with that of c/firmware.
 - `sh` are commands, run at the copy's root; `python` is a program that is run where the last `sh` of its page ended.
 - `text` is what the one before it prints on standard output, `text part` some lines of it that follow each other.
 - `console` are commands behind `$`, each above what a terminal shows of it; they are run in the repository itself, where `kbsim` is
@@ -24,19 +25,18 @@ import re
 import shutil
 import subprocess
 import sys
-import tempfile
 import unittest
 from typing import NamedTuple
 
 ROOT = os.path.dirname(os.path.dirname(os.path.abspath(__file__)))
 sys.path.insert(0, f"{ROOT}/tools")
-from debian_crates import OF_PROGRAM, environment  # noqa: E402
+import building  # noqa: E402
 
 README = f"{ROOT}/README.md"
 SHOWING = ("USING", "firmware", "hosts", "log", "reader", "simulator")
-PAGES = [README, *(f"{ROOT}/docs/{name}.md" for name in SHOWING), *sorted(glob.glob(f"{ROOT}/examples/*/README.md"))]
+PAGES = [README, *(f"{ROOT}/docs/{name}.md" for name in SHOWING), *sorted(glob.glob(f"{ROOT}/examples/*/README.md") + glob.glob(f"{ROOT}/c/*/README.md"))]
 NOT_RUN = re.compile(r"<!-- not run: \S.* -->")
-KINDS = ("toml", "rust", "sh", "python", "console", "text", "text part")
+KINDS = ("toml", "rust", "c", "sh", "python", "console", "text", "text part")
 SECONDS = 1200  # (much, for a machine that many share)
 
 
@@ -110,7 +110,7 @@ class Counted(unittest.TestCase):
         left, seen = by_hand(), set()
         for row in table.splitlines():
             names, said, _ = row.strip("|").split("|")
-            files = {path for path in files_of(names) if path in left or "/examples/" in path}
+            files = {path for path in files_of(names) if path in left or re.search("/(examples|c)/", path)}
             self.assertTrue(files - seen, f"docs/USING.md:{names}names no file that is left")
             lines = sum(lines_of_code(path) for path in files - seen)
             self.assertLessEqual(abs(lines - int(said)), max(10, lines // 10), f"docs/USING.md:{names}has {lines} lines, not{said}")
@@ -125,7 +125,7 @@ class Crates(unittest.TestCase):
         pages = [*glob.glob(f"{ROOT}/rust/*/src/lib.rs"), *glob.glob(f"{ROOT}/docs/*.md")]
         run = {line.removeprefix("//!").strip() for page in pages for line in pathlib.Path(page).read_text("utf-8").splitlines()}
         for page in glob.glob(f"{ROOT}/rust/*/README.md"):
-            for fence in fences(page):
+            for fence in (fence for fence in fences(page) if fence.runs):
                 for line in fence.text.splitlines():
                     self.assertIn(line.strip(), run, f"{fence.place}: a line that no docs run")
 
@@ -139,26 +139,16 @@ class Documents(unittest.TestCase):
             self.assertIn(fence.kind, KINDS, f"{fence.place}: a fence that says no kind, nor `<!-- not run: why -->` before it")
         self.assertGreater(len(kept), 8)
 
-    work = ""
-
     def run_page(self, page):
-        if not self.work:
-            folder = tempfile.TemporaryDirectory()
-            Documents.work = folder.name
-            Documents.addClassCleanup(folder.cleanup)
-            Documents.cargo = environment(self.work, *OF_PROGRAM)
-            for name in ("rust", "examples"):
-                left_out = shutil.ignore_patterns("target", "Cargo.lock")
-                shutil.copytree(f"{ROOT}/{name}", f"{self.work}/wuzhikar/{name}", ignore=left_out)
-        Page(self, self.work, self.cargo, page == README).run_all(fences(page))
+        Page(self, page == README).run_all(fences(page))
 
 
 class Page:
     """A page that is run, from its first fence to its last."""
 
-    def __init__(self, test, work, cargo, is_readme):
-        self.test, self.work, self.environment = test, work, cargo
-        self.root, self.before = (ROOT, "exec 2>&1\n") if is_readme else (f"{work}/wuzhikar", "")
+    def __init__(self, test, is_readme):
+        self.test, self.environment = test, building.environment()
+        self.root, self.before = (ROOT, "exec 2>&1\n") if is_readme else (building.tree(), "")
         self.folder, self.printed = self.root, None
 
     def run_all(self, found):
@@ -197,8 +187,9 @@ class Page:
         return ran.stdout
 
     def toml(self, fence):
-        self.package = f"{self.work}/mine"
-        os.makedirs(f"{self.package}/src", exist_ok=True)
+        self.package = f"{building.FOLDER}/mine"
+        shutil.rmtree(self.package, ignore_errors=True)
+        os.makedirs(f"{self.package}/src")
         with open(f"{self.package}/src/main.rs", "w") as file:
             file.write("fn main() {}\n")
         with open(f"{self.package}/Cargo.toml", "w") as file:
@@ -209,6 +200,16 @@ class Page:
         with open(f"{self.package}/src/main.rs", "w") as file:
             file.write(fence.text)
         return self.ran(fence, ["cargo", "run", "-q"], self.package)
+
+    def c(self, fence):
+        folder = f"{building.tree()}/c/{'reader' if 'hid_reader.h' in fence.text else 'firmware'}"
+        with open(f"{folder}/shown.c", "w") as file:
+            file.write(fence.text)
+        self.ran(fence, ["cargo", "build", "-q", "--release"], folder)
+        library = f"{building.TARGET}/release/lib{'hid_reader' if folder.endswith('reader') else 'wuzhikar'}.a"
+        words = ["cc", "-std=c11", "-Wall", "-Wextra", "-Wpedantic", "-Werror", "-I.", "-Iexamples", "shown.c", library]
+        self.ran(fence, [*words, "-o", f"{building.TARGET}/shown"], folder)
+        return self.ran(fence, [f"{building.TARGET}/shown"], folder)
 
     def sh(self, fence):
         told = self.ran(fence, ["bash", "-euo", "pipefail", "-c", f"{self.before}{fence.text}\npwd"], self.root)

@@ -1,7 +1,7 @@
 """Tests of how bin/kbsim chooses a program, on copies of the repository's scripts with programs that only say what they are."""
 
 import os
-import resource
+import re
 import shutil
 import signal
 import subprocess
@@ -24,6 +24,13 @@ def hear_each():
         signal.signal(number, signal.SIG_DFL)
 
 
+def options_of_all():
+    """Of each command the options that its completion in bash has, which is made of the words of plain Rust."""
+    with open(f"{ROOT}/completions/kbsim.bash", encoding="utf-8") as file:
+        found = re.findall(r"^        kbsim__(?:subcmd__)?([a-z]+)\)\n\s*opts=\"([^\"]*)\"", file.read(), re.M)
+    return {command: re.findall(r"--[a-z]+", options) for command, options in found if command != "help"}
+
+
 class EntryScript(unittest.TestCase):
     """A repository in small, and a folder of programs that stands for the PATH."""
 
@@ -42,7 +49,7 @@ class EntryScript(unittest.TestCase):
         self.write("crates/kbsim_cli/src/main.rt", "1\n")
         self.write("rust/Cargo.toml", "")
         self.record()
-        for tool in "bash cat chmod cp cut find flock git grep head mkdir mktemp mv readlink realpath rm sed sha256sum sleep sort tac tar touch xargs yes ln awk env".split():
+        for tool in "bash cat chmod cp cut find git grep head mkdir mkfifo mktemp mv readlink rm sed sha256sum sleep sort tac tar xargs yes ln awk env".split():
             os.symlink(shutil.which(tool), f"{self.path}/{tool}")
 
     def write(self, name, text, mode=0o644):
@@ -78,6 +85,19 @@ chmod +x "$into/$program"
 """
         self.write(f"{self.path}/cargo", cargo.replace("BUILD", build), 0o755)
 
+    def add_rt(self, first="true"):
+        """A toolchain whose unproved run has its program in a folder of its own while it goes on."""
+        rt = f"""#!/usr/bin/env bash
+cat >/dev/null
+{first}
+mkdir -p "$TMPDIR/run-3"
+printf '%s\\n' '#!/usr/bin/env bash' 'echo unproved "$@"' >"$TMPDIR/run-3/part"
+chmod +x "$TMPDIR/run-3/part"
+mv "$TMPDIR/run-3/part" "$TMPDIR/run-3/program"
+sleep 0.5
+"""
+        self.write(f"{self.path}/rt", rt, 0o755)
+
     def prove(self):
         """Keeps a program as bin/prove does."""
         self.write("program", SAYS.format("proved"), 0o755)
@@ -93,7 +113,7 @@ chmod +x "$into/$program"
         how = {"env": {"PATH": self.path}, "stdout": subprocess.PIPE, "stderr": subprocess.PIPE, "start_new_session": True}
         ran = subprocess.Popen([f"{self.top}/bin/kbsim", "run"], preexec_fn=hear_each, **how)
         self.assertIn(b"builds kbsim", ran.stderr.readline())
-        time.sleep(0.5)
+        time.sleep(1)
         return ran
 
     def kept(self):
@@ -111,17 +131,25 @@ chmod +x "$into/$program"
         self.add_cargo()
         self.assertEqual(self.call("run", "a b"), (0, "proved run a b\n", ""))
 
-    def test_help_says_what_plain_rust_alone_does(self):
+    def test_each_option_of_plain_rust_alone_is_taken_there(self):
         self.prove()
         self.add_cargo()
-        more = "\nOf plain Rust alone, which takes cargo: read, write, and parse with an option (kbsim help read)\n"
-        for words in (["--help"], ["-h"], ["help"], ["parse", "--help"], ["help", "parse"]):
-            self.assertEqual(self.call(*words), (0, f"proved {' '.join(words)}\n{more}", ""))
-        for words in (["help", "run"], ["run", "--help"], ["parse"]):
-            self.assertEqual(self.call(*words), (0, f"proved {' '.join(words)}\n", ""))
-        self.assertEqual(self.call("--way", "plain", "--help")[1], "plain --help\n")
-        for words in (["read", "a"], ["write"], ["parse", "a", "--items"], ["parse", "--details"], ["help", "read"]):
+        with open(f"{ROOT}/crates/command_line/src/lib.rt", encoding="utf-8") as file:
+            of_proved = set(re.findall(r'\.long\("([a-z]+)"\)', file.read())) | {"help"}
+        of_all = options_of_all()
+        self.assertIn("--lenient", of_all["parse"])
+        self.call("--way", "plain", "run")
+        for command, options in of_all.items():
+            for option in options:
+                is_proved = command not in ("read", "write") and option[2:] in of_proved
+                for words in ([command, "a", option], [command, f"{option}=x", "a"]):
+                    with self.subTest(words):
+                        self.assertEqual(self.call(*words), (0, f"{'proved' if is_proved else 'plain'} {' '.join(words)}\n", ""))
+        for words in (["read", "a"], ["write"], ["help", "read"]):
             self.assertEqual(self.call(*words), (0, f"plain {' '.join(words)}\n", ""))
+        # What neither has is refused by the proved program, and a file may have any name.
+        for words in (["run", "--other"], ["parse", "--", "--json"], ["help", "parse"], ["--json"], []):
+            self.assertEqual(self.call(*words), (0, f"proved {' '.join(words)}\n" if words else "proved\n", ""))
 
     def test_a_word_of_plain_rust_alone_is_refused_by_name(self):
         self.prove()
@@ -149,37 +177,55 @@ chmod +x "$into/$program"
         self.assertEqual((status, printed, len(said.splitlines())), (0, "plain run\n", 1))
         self.assertIn("bin/prove proves", said)
         self.assertEqual(self.call("--quiet", "run"), (0, "plain run\n", ""))
-        self.assertEqual(self.kept(), ["plain", "sums"])
+        self.assertEqual(self.kept(), ["plain"])
 
-    def test_where_nothing_changed_no_source_is_read(self):
-        self.add_cargo()
-        self.call("run")
-        time.sleep(2.1)  # a source that was written in the second of the look may change once more in it
-        self.assertEqual(self.call("--quiet", "run"), (0, "plain run\n", ""))
-        others = [f"{self.path}/{tool}" for tool in ("sha256sum", "sort", "tac", "awk", "git", "rustc", "cargo")]
-        for other in others:
-            os.rename(other, f"{other}-away")
-        before = resource.getrusage(resource.RUSAGE_CHILDREN)
-        self.assertEqual(self.call("--quiet", "run"), (0, "plain run\n", ""))
-        after = resource.getrusage(resource.RUSAGE_CHILDREN)
-        self.assertLess(after.ru_utime + after.ru_stime - before.ru_utime - before.ru_stime, 0.05)
-        for other in others:
-            os.rename(f"{other}-away", other)
-        # A clock that was set back, a program that was proved meanwhile, and a file that is new are seen.
-        sums = f"{self.top}/out/kbsim/sums"
-        with open(sums, encoding="utf-8") as file:
-            read_at, proved, plain = file.read().split()
-        self.write(sums, f"{int(read_at) + 1000} other other\n")
-        os.utime(sums, (int(read_at) + 1000,) * 2)
-        self.assertEqual(self.call("--quiet", "run"), (0, "plain run\n", ""))
-        with open(sums, encoding="utf-8") as file:
-            self.assertEqual(file.read().split()[1:], [proved, plain])
+    def test_a_clock_that_is_behind_runs_no_old_program(self):
         self.prove()
-        self.assertEqual(self.call("run"), (0, "proved run\n", ""))
-        self.write("crates/low/src/new.rt", "")
-        self.assertEqual(self.call("run")[:2], (0, "plain run\n"))
-        os.remove(f"{self.top}/crates/low/src/new.rt")
-        self.assertEqual(self.call("run"), (0, "proved run\n", ""))
+        self.call("run")
+        later = time.time() + 3600
+        for name in os.listdir(f"{self.top}/out/kbsim"):
+            os.utime(f"{self.top}/out/kbsim/{name}", (later, later))
+        self.write("crates/low/src/lib.rt", "2\n")
+        self.assertEqual(self.call("run")[0], 1)
+
+    def test_a_source_that_is_saved_while_it_is_built(self):
+        self.add_cargo(build='[ ! -e src/late.rs ] || : >"$into/late"; cp -r "$into" "$TOP/built"; : >"$TOP/rust/src/later.rs"')
+        os.mkdir(f"{self.top}/rust/src")
+        # (The compiler is asked after the sources were read, and before they are copied.)
+        with open(f"{self.path}/rustc", "a", encoding="utf-8") as file:
+            file.write(f": >>{self.top}/rust/src/late.rs\n")
+        self.assertEqual(self.call("run", TOP=self.top)[:2], (0, "plain run\n"))
+        self.assertIn("late", os.listdir(f"{self.top}/built"))
+        self.add_cargo(build="exit 1")
+        os.remove(f"{self.top}/rust/src/later.rs")
+        self.assertEqual(self.call("--quiet", "run"), (0, "plain run\n", ""), "it is kept under the sources that were copied")
+        os.remove(f"{self.top}/rust/src/late.rs")
+        self.assertIn("cargo could not build it", self.call("run")[2], "and under no others")
+
+    def test_other_users_can_read_what_is_kept(self):
+        self.add_cargo()
+        before = os.umask(0o077)
+        try:
+            self.call("run")
+            self.write("rust/new.rs", "")
+            self.add_cargo(build="exit 1")
+            self.call("run")
+        finally:
+            os.umask(before)
+        self.assertEqual(self.kept(), ["cargo.log", "plain"])
+        for name in ("out", "out/kbsim", *(f"out/kbsim/{name}" for name in os.listdir(f"{self.top}/out/kbsim"))):
+            self.assertEqual(os.stat(f"{self.top}/{name}").st_mode & 0o055, 0o055, name)
+
+    def test_a_standard_error_that_cannot_be_written(self):
+        ways = ("2>/dev/full", "2>&-", "2> >(:)")
+        for way in ways:
+            with self.subTest(way):
+                shutil.rmtree(f"{self.top}/out", ignore_errors=True)
+                self.add_cargo(build="sleep 0.2")
+                words = ["bash", "-c", f'sleep 0.1; "$0" run {way}', f"{self.top}/bin/kbsim"]
+                for _ in range(2):
+                    ran = subprocess.run(words, env={"PATH": self.path}, stdout=subprocess.PIPE, text=True)
+                    self.assertEqual((ran.returncode, ran.stdout), (0, "plain run\n"))
 
     def test_a_file_that_git_ignores_is_no_source(self):
         self.add_cargo()
@@ -207,7 +253,7 @@ chmod +x "$into/$program"
         self.add_cargo(build=f'echo "$(test ! -e Cargo.lock || echo locked) $words" >>"{self.top}/told"; exit 1')
         self.call("run")
         with open(f"{self.top}/told", encoding="utf-8") as file:
-            ways = [("locked" in line, "--offline" in line) for line in file]
+            ways = [("locked" in line, "tools/debian.toml" in line) for line in file]
         self.assertEqual(ways, [(False, True), (True, False)] if debian_crates.installed("arrayvec") else [(True, False)])
 
     def test_plain_rust_of_other_sources_is_not_taken(self):
@@ -225,35 +271,53 @@ chmod +x "$into/$program"
         self.add_cargo("1.84.1")
         self.assertIn("nothing here can build it", self.call("run")[2])
 
-    def test_a_build_that_fails_goes_on_to_the_next_way(self):
-        self.add_cargo(build="echo 'error: no such crate' >&2; exit 1")
-        status, _, said = self.call("run")
-        self.assertEqual(status, 1)
+    def test_a_build_that_fails_is_told_and_tried_once(self):
+        fails = f"echo x >>{self.top}/tried; echo 'error: no such crate' >&2; exit 1"
+        self.add_cargo(build=fails)
+
+        def tries():
+            status, printed, said = self.call("run")
+            self.assertEqual((status, printed), (1, ""))
+            with open(f"{self.top}/tried", encoding="utf-8") as file:
+                return len(file.readlines()), said
+
+        once, said = tries()
         self.assertIn("cargo could not build it (error: no such crate)", said)
-        self.assertIn("nothing here can build it: install what cargo lacks", said)
+        lacking = "nothing here can build it: install what cargo lacks (error: no such crate; out/kbsim/cargo.log"
+        self.assertIn(lacking, said)
         self.assertEqual(self.kept(), ["cargo.log"])
+        again, said = tries()
+        self.assertEqual((again, len(said.splitlines())), (once, 1))
+        self.assertIn(lacking, said)
+        self.write("rust/new.rs", "")
+        self.assertEqual(tries()[0], 2 * once, "other sources")
+        self.add_cargo("1.86.0", build=fails)
+        self.assertEqual(tries()[0], 3 * once, "another compiler")
+        os.remove(f"{self.top}/out/kbsim/cargo.log")
+        self.assertEqual(tries()[0], 4 * once, "the log is gone")
+        self.add_cargo("1.86.0")
+        self.write("rust/new.rs", "1")
+        self.assertEqual(self.call("run")[:2], (0, "plain run\n"))
 
     def test_crates_that_cargo_cannot_get_are_named_by_debians_packages(self):
         self.add_cargo(build="echo 'error: failed to get `arrayvec` as a dependency of package `low v0.1.0 (/top)`' >&2; exit 1")
         packages = "install the crates that cargo could not get (Debian: apt-get install librust-arrayvec-dev librust-hex-dev"
         self.assertIn(packages, self.call("run")[2])
-        # also where the toolchain is there, which goes on
-        self.write(f"{self.path}/rt", "#!/usr/bin/env bash\necho rt \"$@\"\n", 0o755)
+        # Also where the toolchain is there, which goes on; then no word of it is said again.
+        self.add_rt()
         status, printed, said = self.call("run")
-        self.assertEqual((status, printed), (0, "rt try -- run\n"))
+        self.assertEqual((status, printed), (0, "unproved run\n"))
         self.assertIn(packages, said)
+        self.assertEqual(self.call("--quiet", "run"), (0, "unproved run\n", ""))
 
-    def test_the_toolchains_own_run_is_handed_the_files(self):
-        self.write(f"{self.path}/rt", "#!/usr/bin/env bash\necho rt \"$@\"\n", 0o755)
-        for name in ("old", "script"):
-            self.write(name, "")
-        words = ["--pages", "3", f"--image={self.top}/old", f"{self.top}/script", "--save", f"{self.top}/new"]
-        status, printed, said = self.call("run", *words)
-        handed = f"--data image={self.top}/old --data text={self.top}/script"
-        run = f"run --pages 3 --image image text --save {self.top}/new"
-        self.assertEqual((status, printed), (0, f"rt try {handed} -- {run}\n"))
-        self.assertIn("the toolchain runs the sources themselves", said)
-        self.assertEqual(self.call("parse", "-")[1], "rt try -- parse -\n")
+    def test_an_unproved_program_is_kept_under_what_was_copied(self):
+        self.add_rt(f"echo 2 >{self.top}/crates/low/src/lib.rt")
+        self.assertEqual(self.call("run")[:2], (0, "unproved run\n"))
+        self.add_rt("exit 1")
+        status, _, said = self.call("run")
+        self.assertEqual((status, said.splitlines()[-1]), (1, "kbsim: the toolchain could not compile it (out/kbsim/try.log says why)"))
+        self.write("crates/low/src/lib.rt", "1\n")
+        self.assertEqual(self.call("--quiet", "run"), (0, "unproved run\n", ""))
 
     def test_ways_and_paths(self):
         self.add_cargo()
@@ -277,7 +341,7 @@ chmod +x "$into/$program"
         words, how = [f"{self.top}/bin/kbsim", "run"], {"env": {"PATH": self.path}, "stdout": subprocess.PIPE, "stderr": subprocess.PIPE}
         both = [subprocess.Popen(words, **how) for _ in range(2)]
         self.assertEqual([ran.communicate()[0] for ran in both], [b"plain run\n"] * 2)
-        self.assertEqual(self.kept(), ["plain", "sums"])
+        self.assertEqual(self.kept(), ["plain"])
 
     def test_an_interrupted_build_leaves_nothing(self):
         self.add_cargo(build='sleep 60 & wait; touch "$into/late"')
@@ -289,21 +353,20 @@ chmod +x "$into/$program"
             self.assertLess(time.monotonic() - begun, 10, "the build goes on")
             self.assertEqual(self.kept(), [])
 
-    def test_what_a_killed_build_left_goes_with_the_next(self):
-        self.add_cargo(build="sleep 60")
-        alive, killed = self.begin(), self.begin()
-        self.assertEqual(self.kept(), ["cargo", "cargo"])
-        left = subprocess.run(["pgrep", "-P", str(killed.pid)], stdout=subprocess.PIPE, text=True, check=True).stdout.split()
-        killed.kill()
-        for group in left:
-            os.killpg(int(group), signal.SIGKILL)
-        killed.communicate()
-        self.add_cargo()
-        self.assertEqual(self.call("run")[:2], (0, "plain run\n"))
-        self.assertEqual(self.kept(), ["cargo", "plain", "sums"], "the folder of a build that goes on stays")
-        alive.terminate()
-        alive.communicate()
-        self.assertEqual(self.kept(), ["plain", "sums"])
+    def test_a_killed_run_leaves_nothing(self):
+        self.add_cargo(build=f"echo $$ >{self.top}/builds; sleep 60 & wait")
+        ran = self.begin()
+        ran.kill()
+        ran.wait()
+        with open(f"{self.top}/builds", encoding="utf-8") as file:
+            group = int(file.read())
+        for _ in range(100):
+            left = subprocess.run(["pgrep", "-g", str(group)], stdout=subprocess.PIPE, text=True).stdout.split()
+            if not left and not self.kept():
+                break
+            time.sleep(0.1)
+        ran.communicate()
+        self.assertEqual((left, self.kept()), ([], []))
 
 
 if __name__ == "__main__":

@@ -1,4 +1,4 @@
-"""Tests of examples/hid_reader, the reader from C. They need cargo, rustc and gcc, and valgrind where it is there.
+"""Tests of c/reader, the reader from C. They need cargo, rustc and gcc, and valgrind where it is there.
 
 What its calls tell of details, values and writes is compared with reference/reader/plain.py. The programs in C are built with AddressSanitizer and UBSan, and once more without for valgrind, which sees what the library
 does too. Fields are compared with those that the program prints that the variable KBSIM names, or else bin/kbsim.
@@ -16,9 +16,9 @@ import unittest
 from test_kbsim import KBSIM, ROOT, read_cases
 
 sys.path.insert(0, f"{ROOT}/tools")
-from debian_crates import environment  # noqa: E402
+import building  # noqa: E402
 
-EXAMPLE = f"{ROOT}/examples/hid_reader"
+EXAMPLE = f"{ROOT}/c/reader"
 WARNINGS = ["-std=c11", "-D_DEFAULT_SOURCE", "-Wall", "-Wextra", "-Wpedantic", "-Werror", "-g", "-O1", "-pthread"]
 SANITIZERS = ["-fsanitize=address,undefined", "-fno-sanitize-recover=all"]
 # Requests for memory go through the test.
@@ -65,17 +65,10 @@ class HidReader(unittest.TestCase):
         folder = tempfile.TemporaryDirectory()
         cls.addClassCleanup(folder.cleanup)
         cls.work = folder.name
-        cls.environment = {
-            **environment(cls.work, "arrayvec"),
-            "CARGO_TARGET_DIR": f"{cls.work}/target",
-            "RUSTFLAGS": "-D warnings",
-        }
-        # A copy, so that nothing is written into the repository.
-        for path in ("examples/hid_reader", "examples/hid_driver", "rust"):
-            shutil.copytree(f"{ROOT}/{path}", f"{cls.work}/{path}", ignore=shutil.ignore_patterns("target", "Cargo.lock"))
-        cls.example = f"{cls.work}/examples/hid_reader"
+        cls.environment = building.environment()
+        cls.example = f"{building.tree()}/c/reader"
         cls.cargo("build", "-q", "--release")
-        cls.release = f"{cls.work}/target/release"
+        cls.release = f"{building.TARGET}/release"
         cls.texts = texts_of_rows()
         cls.files = []
         for number, text in enumerate(sorted(cls.texts, key=len)[-24:]):
@@ -158,8 +151,11 @@ class HidReader(unittest.TestCase):
         }
         for name, (wanted, *given) in drivers.items():
             with self.subTest(name):
-                program = self.built(f"../hid_driver/c/{name}.c", *SANITIZERS, f"-I{EXAMPLE}")
+                program = self.built(f"../../examples/hid_driver/c/{name}.c", *SANITIZERS, f"-I{EXAMPLE}")
                 self.says(driver_prints(wanted), program, *(f"{ROOT}/examples/hid_driver/{file}" for file in given))
+
+    def test_views_and_raw_writes(self):
+        self.both("tests/views.c", "views, raw writes and all controls of a usage: each as the report says it\n")
 
     def test_threads(self):
         self.both("tests/threads.c", "8 threads: each reading is right, or its handle was closed\n", ["20000"], ["200"])
@@ -195,33 +191,74 @@ class HidReader(unittest.TestCase):
             ["nm", "-D", "--defined-only", f"{self.release}/libhid_reader.so"], stdout=subprocess.PIPE, check=True, text=True
         ).stdout
         self.assertEqual({line.split()[-1] for line in listed.splitlines()}, declared)
-        self.assertEqual(len(declared), 44)
+        self.assertEqual(len(declared), 54)
 
-    def test_what_is_installed(self):
-        lacks = [tool for tool in ("make", "pkg-config", "readelf") if not shutil.which(tool)]
+    def installed(self, *needed, **more):
+        """Where the library is installed, below a stage, or the test is skipped since one of these tools is not there."""
+        lacks = [tool for tool in ("make", *needed) if not shutil.which(tool)]
         if lacks:
-            self.skipTest(f"not there: {', '.join(lacks)} (Debian: make, pkg-config, binutils)")
-        stage = f"{self.work}/stage"
+            self.skipTest(f"not there: {', '.join(lacks)} (Debian: make, pkg-config, binutils, cmake)")
+        stage = tempfile.mkdtemp(dir=self.work)
         told = subprocess.run(
             ["make", "-C", self.example, "install", "PREFIX=/opt/hid", f"DESTDIR={stage}"],
-            env=self.environment, stdout=subprocess.PIPE, stderr=subprocess.STDOUT, text=True,
+            env={**self.environment, **more}, stdout=subprocess.PIPE, stderr=subprocess.STDOUT, text=True,
         )
         self.assertEqual(told.returncode, 0, told.stdout)
         self.addCleanup(self.cargo, "build", "-q", "--release")  # (the shared library of the other tests has no SONAME)
+        return stage
+
+    def is_the_mouse(self, program, stage, shared):
+        """Runs the driver of a mouse, which is to need the shared library, or not."""
+        environment = {**os.environ, "LD_LIBRARY_PATH": f"{stage}/opt/hid/lib"}
+        self.says(driver_prints("mouse"), program, f"{ROOT}/examples/hid_driver/mouse.hex", env=environment)
+        needed = subprocess.run(["readelf", "-d", program], check=True, stdout=subprocess.PIPE, text=True).stdout
+        self.assertEqual("[libhid_reader.so.0]" in needed, shared)
+
+    def test_what_is_installed(self):
+        stage = self.installed("pkg-config", "readelf")
         libraries = f"{stage}/opt/hid/lib"
         asked = {"PKG_CONFIG_PATH": f"{libraries}/pkgconfig", "PKG_CONFIG_SYSROOT_DIR": stage}
-        flags = subprocess.run(
-            ["pkg-config", "--cflags", "--libs", "hid_reader"], env={**os.environ, **asked}, check=True, stdout=subprocess.PIPE, text=True
-        ).stdout.split()
+
+        def config(*words):
+            ran = subprocess.run(["pkg-config", *words, "hid_reader"], env={**os.environ, **asked}, check=True, stdout=subprocess.PIPE, text=True)
+            return ran.stdout.split()
+
+        flags = config("--cflags", "--libs")
         self.assertEqual(flags, [f"-I{stage}/opt/hid/include", f"-L{libraries}", "-lhid_reader"])
-        wanted = driver_prints("mouse")
+        with open(f"{ROOT}/VERSION") as file:
+            self.assertEqual(config("--modversion"), file.read().split())
         # Of the repository nothing is taken but the driver.
         source, program = f"{ROOT}/examples/hid_driver/c/mouse.c", f"{self.work}/installed"
-        for library in (flags, [flags[0], f"{libraries}/libhid_reader.a"]):
+        static = [flags[0], f"{libraries}/libhid_reader.a"], ["-static", *config("--static", "--cflags", "--libs")]
+        for library in (flags, *static):
             subprocess.run(["gcc", *WARNINGS, source, *library, "-o", program], check=True)
-            self.says(wanted, program, f"{ROOT}/examples/hid_driver/mouse.hex", env={**os.environ, "LD_LIBRARY_PATH": libraries})
-            needed = subprocess.run(["readelf", "-d", program], check=True, stdout=subprocess.PIPE, text=True).stdout
-            self.assertEqual("[libhid_reader.so.0]" in needed, library == flags)
+            self.is_the_mouse(program, stage, shared=library == flags)
+
+    def test_what_is_installed_for_a_target(self):
+        # The other folder of cargo is empty: nothing is taken from there.
+        target = re.search("^host: (.*)$", subprocess.run(["rustc", "-vV"], stdout=subprocess.PIPE, text=True).stdout, re.M)[1]
+        stage = self.installed("cmake", "readelf", CARGO_BUILD_TARGET=target, CARGO_TARGET_DIR=f"{self.work}/of_target")
+        project = f"{self.work}/project"
+        os.mkdir(project)
+        shutil.copytree(f"{ROOT}/examples/hid_driver/c", f"{project}/c")
+        with open(f"{project}/CMakeLists.txt", "w") as file:
+            file.write(
+                "cmake_minimum_required(VERSION 3.13)\nproject(drivers C)\nfind_package(hid_reader 0.2 REQUIRED)\n"
+                "add_executable(shared c/mouse.c)\ntarget_link_libraries(shared hid_reader::hid_reader)\n"
+                "add_executable(static c/mouse.c)\ntarget_link_libraries(static hid_reader::static)\n"
+            )
+        build = ["cmake", "-S", project, "-B", f"{project}/build", f"-DCMAKE_PREFIX_PATH={stage}/opt/hid"]
+        for words in (build, ["cmake", "--build", f"{project}/build"]):
+            ran = subprocess.run(words, stdout=subprocess.PIPE, stderr=subprocess.STDOUT, text=True)
+            self.assertEqual(ran.returncode, 0, ran.stdout)
+        for name in ("shared", "static"):
+            self.is_the_mouse(f"{project}/build/{name}", stage, shared=name == "shared")
+        with open(f"{project}/CMakeLists.txt") as file:
+            asked = file.read()
+        for version in ("0.1", "0.3", "1.0"):
+            with open(f"{project}/CMakeLists.txt", "w") as file:
+                file.write(asked.replace("hid_reader 0.2", f"hid_reader {version}"))
+            self.assertNotEqual(subprocess.run(build, stdout=subprocess.DEVNULL, stderr=subprocess.DEVNULL).returncode, 0, version)
 
     def test_the_headers_in_c_and_cpp(self):
         with open(f"{EXAMPLE}/hid_usages.h") as file:

@@ -51,17 +51,22 @@ def full_of_format_1():
 class Program(unittest.TestCase):
     """The program, as its tests call it."""
 
+    def asks(self, words):
+        """Skips a test of words that this program lacks: the proved one has no other forms of a descriptor, and starts on a blank
+        flash."""
+        if not IS_PLAIN and (words[0] == "parse" and len(words) > 1 or "--image" in words):
+            self.skipTest(f"the proved program has no {' '.join(words)}")
+
     def prints(self, words, text, printed, status=0, said=None):
         """Compares what the program prints of a text, its status, and what it says on standard error: where that is not given,
-        a sentence beside a fault, and else nothing. The proved program says of a fault just what it is, and has no other forms
-        of a descriptor."""
-        if not IS_PLAIN and words[0] == "parse" and len(words) > 1:
-            return
+        a sentence beside a fault, and else nothing. The proved program says of a fault just what it is, and of an empty
+        descriptor nothing."""
+        self.asks(words)
         given = text if isinstance(text, bytes) else text.encode()
         ran = subprocess.run([*KBSIM, *words], input=given, capture_output=True)
         told, spoken = (stream.decode(errors="backslashreplace") for stream in (ran.stdout, ran.stderr))
-        if not IS_PLAIN and status and said:
-            said = "".join(said.splitlines(True)[:-1] + spoken.splitlines(True)[-1:])
+        if not IS_PLAIN and said and (status or words[0] == "parse"):
+            said = "".join(said.splitlines(True)[:-1] + spoken.splitlines(True)[-1:]) if status else ""
         if said is None:
             said = spoken if spoken.count("\n") == status and spoken.endswith("\n" * status) else "a sentence\n" * status
         if (ran.returncode, told, spoken) == (status, printed, said):
@@ -87,6 +92,7 @@ class Rows(Program):
     """The files of tests/: a method for each heading."""
 
     def run_cases(self, words, cases):
+        self.asks(words)
         for case in cases:
             with self.subTest(case.place), tempfile.NamedTemporaryFile() as image:
                 started = list(words)

@@ -98,6 +98,24 @@ class Records(unittest.TestCase):
         with self.assertRaisesRegex(SystemExit, "fault line 1"):
             records("poll x\n", "fault line 1: wrong words\n")
 
+    def test_what_is_no_answer_is_refused_in_one_line(self):
+        for script, answers in [
+            ("poll\n", "1\n"), ("poll\n", "1 report zz read none\n"), ("poll\n", "1 report 0 unread\n"), ("poll\n", "1 report 01\n"),
+            ("setup 8006000100001200\nin\n", "1 ack\n2 data\n"), ("setup 8006000100001200\nin\n", "1 ack\n2 ok\n"),
+            ("setup 80\n", "1 ack\n"), ("setup x\n", "1 ack\n"), ("setup\n", "1 ack\n"), ("scans x\n", "1 ok\n"), ("no\n", "1 ok\n"),
+            ("set 1 2\n", "1 ack\n"), ("set 1 2 99999\n", "1 ack\n"), ("\udcff\n", "1 ok\n"), ("fetch\n", "1 fetched\n"),
+        ]:
+            with self.subTest(script=script, answers=answers), tempfile.TemporaryDirectory() as folder:
+                for name, text in (("script", script), ("answers", answers)):
+                    with open(f"{folder}/{name}", "w", encoding="utf-8", errors="surrogateescape") as file:
+                        file.write(text)
+                words = ["python3", "-B", f"{ROOT}/examples/pcap.py", "script", "answers", "capture"]
+                ran = subprocess.run(words, cwd=folder, capture_output=True, text=True)
+                self.assertEqual((ran.returncode, ran.stdout, os.path.exists(f"{folder}/capture")), (1, "", False))
+                self.assertRegex(ran.stderr, r"\Apcap: line [12] of the script .*\n\Z")
+                ran = subprocess.run([*words[:3], "lacking", *words[4:]], cwd=folder, capture_output=True, text=True)
+                self.assertRegex(ran.stderr, r"\Apcap: .*lacking.*\n\Z")
+
 
 def session(seed):
     """A script of a host that enumerates the keyboard, sets keys, and polls while keys go down and up."""

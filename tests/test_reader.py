@@ -11,7 +11,6 @@ import re
 import shutil
 import subprocess
 import sys
-import tempfile
 
 from test_kbsim import read_cases
 
@@ -19,7 +18,7 @@ ROOT = pathlib.Path(__file__).resolve().parent.parent
 sys.path[:0] = [str(ROOT / "reference/reader"), str(ROOT / "tools")]
 import plain  # noqa: E402
 import plain_write  # noqa: E402
-from debian_crates import environment  # noqa: E402
+import building  # noqa: E402
 
 KINDS = (plain.INPUT, plain.OUTPUT, plain.FEATURE)
 READ = {"empty": "Empty", "unknown": "UnknownReport", "short": "Short"}
@@ -265,22 +264,12 @@ class Case:
         return True
 
 
-def program(work):
-    """Builds the program that asks the crate."""
-    folder = ROOT / "tests/reader/tell"
-    made = {**environment(work, "arrayvec"), "CARGO_TARGET_DIR": f"{work}/target"}
-    looked_at(ROOT / "examples/hid_driver", made)
-    looked_at(folder, made)
-    subprocess.run(["cargo", "build", "--release", "--quiet"], cwd=folder, env=made, check=True)
-    return f"{work}/target/release/tell"
-
-
-def looked_at(folder, made):
+def looked_at(folder):
     """Whether rustfmt and clippy find nothing in a crate, and each link of its docs leads somewhere."""
     for part, words in {"fmt": ["--check"], "clippy": ["--quiet", "--all-targets", "--", "-D", "warnings"]}.items():
         if shutil.which(f"cargo-{part}"):
-            subprocess.run(["cargo", part, *words], cwd=folder, env=made, check=True)
-    subprocess.run(["cargo", "doc", "--quiet", "--no-deps"], cwd=folder, env={**made, "RUSTDOCFLAGS": "-D warnings"}, check=True)
+            building.cargo(part, *words, folder=folder)
+    building.cargo("doc", "--quiet", "--no-deps", folder=folder, RUSTDOCFLAGS="-D warnings")
 
 
 class Shown:
@@ -411,9 +400,11 @@ def main():
     for text in loose:
         case.ask(f"L {text.hex()}", told_lenient(text))
     read = sum(not told_lenient(text).startswith("fault") for text in loose)
-    with tempfile.TemporaryDirectory() as work:
-        made = subprocess.run([words.program or program(work)], input="\n".join(case.asked) + "\n", capture_output=True, text=True)
-        fine = commands([text for text in texts if sound(text)]) if words.program is None else True
+    if not words.program:
+        looked_at("examples/hid_driver")
+    program = words.program or f"{building.programs()}/tell"
+    made = subprocess.run([program], input="\n".join(case.asked) + "\n", capture_output=True, text=True)
+    fine = commands([text for text in texts if sound(text)]) if words.program is None else True
     answers = made.stdout.splitlines()
     wrong = [trio for trio in zip(case.asked, case.wanted, answers) if trio[1] != trio[2]]
     for asked, wanted, answer in wrong[:5]:

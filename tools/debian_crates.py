@@ -2,12 +2,12 @@
 
 import functools
 import os
-import shutil
 import subprocess
 import tempfile
 
 ROOT = os.path.dirname(os.path.dirname(os.path.abspath(__file__)))
 REGISTRY = "/usr/share/cargo/registry"
+SOURCE = f"{ROOT}/tools/debian.toml"  # cargo's configuration by which it takes them
 
 # What the program in plain Rust is built with.
 OF_PROGRAM = ("arrayvec", "hex", "clap", "strsim", "serde_json", "thiserror")
@@ -16,6 +16,20 @@ OF_PROGRAM = ("arrayvec", "hex", "clap", "strsim", "serde_json", "thiserror")
 def installed(crate):
     """Whether Debian has installed a crate."""
     return os.path.isdir(REGISTRY) and any(name.startswith(f"{crate}-") for name in os.listdir(REGISTRY))
+
+
+# What is taken with a crate, and is of a package of Debian's beside that of the crate.
+WITH = {"proptest": ("quick-error", "regex-syntax", "lazy_static")}
+
+
+def absent(crates):
+    """Which of these crates Debian has not installed, with all that is taken with them."""
+    return [crate for name in sorted(crates) for crate in (name, *WITH.get(name, ())) if not installed(crate)]
+
+
+def takes_debians(crates):
+    """Whether cargo takes Debian's crates: where it has all of these, or where no registry gives those that it lacks."""
+    return not absent(crates) or bool(lacking(*absent(crates)))
 
 
 def environment(work, *crates):
@@ -27,31 +41,22 @@ def environment(work, *crates):
     return made
 
 
-def unlocked(work, *folders):
-    """Copies folders of the repository, and rust/, into `work` without their Cargo.lock, which is for the public registry, and gives
-    the first one."""
-    for folder in (*folders, "rust"):
-        left_out = shutil.ignore_patterns("target", "Cargo.lock")
-        shutil.copytree(f"{ROOT}/{folder}", f"{work}/{folder}", ignore=left_out, dirs_exist_ok=True)
-    return f"{work}/{folders[0]}"
-
-
 def home(folder, crates):
     """Makes a home for cargo that takes crates from a folder alone, and gives its variables."""
     os.makedirs(folder, exist_ok=True)
-    with open(f"{folder}/config.toml", "w") as file:
-        file.write(f'[source.crates-io]\nreplace-with = "debian"\n[source.debian]\ndirectory = "{crates}"\n')
-    return {"CARGO_HOME": folder, "CARGO_NET_OFFLINE": "true"}
+    with open(SOURCE) as source, open(f"{folder}/config.toml", "w") as file:
+        file.write(source.read().replace(REGISTRY, crates))
+    return {"CARGO_HOME": folder}
 
 
 @functools.cache
 def lacking(*crates):
     """What is missing of these crates (a phrase with Debian's packages), if cargo can't have them all."""
-    absent = [crate for crate in crates if not installed(crate)]
-    if not absent or is_reached(crates):
+    lacks = absent(crates)
+    if not lacks or is_reached(crates):
         return ""
-    packages = " ".join(f"librust-{crate.replace('_', '-')}-dev" for crate in absent)
-    return f"{' and '.join(absent)} not there, and cargo reaches no registry (Debian: {packages})"
+    packages = " ".join(f"librust-{crate.replace('_', '-')}-dev" for crate in lacks)
+    return f"{' and '.join(lacks)} not there, and cargo reaches no registry (Debian: {packages})"
 
 
 def is_reached(crates):

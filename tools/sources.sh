@@ -9,14 +9,6 @@ its_crates() {
         needed[$1] { print $1; count = split($2, below, " "); for (i = 1; i <= count; i++) needed[below[i]] = 1 }'
 }
 
-# sum_of FOLDER PATH..: one checksum of the names and bytes of all files there.
-sum_of() {
-    local folder=$1
-    shift
-    # (not each crate has each of the folders)
-    (cd "$folder" && { find "$@" \( -name target -o -name out \) -prune -o -type f -print0 2>/dev/null || true; } | sum_of_names)
-}
-
 # sum_of_names: one checksum of the files whose names, each with a NUL behind it, are read.
 sum_of_names() { LC_ALL=C sort -z | xargs -0 -r sha256sum | sha256sum | cut -c1-24; }
 
@@ -35,14 +27,30 @@ sum_of_proved() {
     for name in "${names[@]}"; do paths+=("crates/$name/src" "crates/$name/specs" "crates/$name/proofs"); done
     {
         for name in "${names[@]}"; do grep "^$name:" "$1/crates.txt"; done
-        sum_of "$1" "${paths[@]}"
+        # (not each crate has each of the folders)
+        (cd "$1" && { find "${paths[@]}" \( -name target -o -name out \) -prune -o -type f -print0 2>/dev/null || true; } | sum_of_names)
     } | sha256sum | cut -c1-24
 }
 
-# keep PROGRAM NAME: keeps a program under this name, whole or not at all.
+# copy_of_proved FOLDER: copies there what a proof of the program reads, and has its checksum, which is that of the copy: a file
+# that is saved later is not taken for what was built.
+copy_of_proved() {
+    local names name part
+    mapfile -t names < <(its_crates "$root" | tac)
+    for name in "${names[@]}"; do
+        grep "^$name:" "$root/crates.txt" >>"$1/crates.txt"
+        mkdir -p "$1/crates/$name"
+        for part in src specs proofs; do
+            if [ -e "$root/crates/$name/$part" ]; then cp -r "$root/crates/$name/$part" "$1/crates/$name"; fi
+        done
+    done
+    sum_of_proved "$1"
+}
+
+# keep FILE NAME: keeps a file under this name, whole or not at all, for each user to read and to run.
 keep() {
     local part
-    mkdir -p "$kept"
+    (umask 022 && mkdir -p "$kept")
     part=$(mktemp "$kept/part-XXXXXX")
     cp "$1" "$part" && chmod 755 "$part" && mv "$part" "$kept/$2" || { rm -f "$part" && return 1; }
 }

@@ -1,6 +1,6 @@
 """Builds what is measured: the peer by gcc, the exported keyboard by Debian's rustc, each under bench/calls.c and bench/firmware.c.
 
-What is built stays in out/bench, so that a further run is faster.
+What is built stays in out/build, so that a further run is faster.
 """
 
 import os
@@ -14,11 +14,10 @@ HERE = os.path.dirname(os.path.abspath(__file__))
 ROOT = os.path.dirname(os.path.dirname(HERE))
 sys.path.insert(0, f"{ROOT}/tools/export_rust")
 
-from room import DEBIAN_RUSTC, HERE as EXPORTER, Failed, Room, Skipped, debian_sources, version_of
+from room import DEBIAN_RUSTC, Room, Skipped, debian_sources
 
 BENCH = f"{ROOT}/bench"
 PEER = f"{ROOT}/reference/peer"
-FOLDER = f"{ROOT}/out/bench"
 
 
 class Target(NamedTuple):
@@ -44,6 +43,9 @@ TARGETS = [
 ]
 
 SECTIONS = ["-ffunction-sections", "-fdata-sections"]
+
+# gcc makes no call of memset or memcpy of the peer's loops.
+LOOPS = "-fno-tree-loop-distribute-patterns"
 INCLUDES = [f"-I{BENCH}", f"-I{PEER}"]
 WARNINGS = ["-Wall", "-Wextra", "-Werror"]
 
@@ -84,7 +86,7 @@ class Builds:
 
     def peer(self):
         """The peer, as objects. A restart is a call from another file."""
-        options = ["-std=c11", f"-O{self.target.peer}"]
+        options = ["-std=c11", f"-O{self.target.peer}", LOOPS]
         return [self.compile(f"{name}.c", *options, of=PEER) for name in ("keyboard", "restart")]
 
     def ours(self):
@@ -92,8 +94,8 @@ class Builds:
         level = {"CARGO_PROFILE_RELEASE_OPT_LEVEL": self.target.ours}
         flags = "-D warnings"
         if self.target.triple.startswith("thumb"):
-            flags += f" --sysroot {sysroot(self.room, self.target.triple)}"
-        self.room.cargo("build", "--release", "--target", self.target.triple, cwd=self.room.path("bench/shim"), RUSTC=DEBIAN_RUSTC,
+            flags += f" --sysroot {self.room.sysroot(self.target.triple)}"
+        self.room.cargo("build", "--release", "--target", self.target.triple, cwd=self.room.package("bench/shim"), RUSTC=DEBIAN_RUSTC,
                         RUSTFLAGS=flags, **level)
         return [shutil.copy(self.room.program("libshim.a", self.target.triple), self.path("ours.a"))]
 
@@ -110,9 +112,18 @@ class Builds:
         elsewhere = ["-Wl,-e,main", "-Wl,--defsym=flash_cells=0x08008000"]
         if name == "ours":
             return self.link("firmware-ours", [self.compile("firmware.c", "-std=c11", "-Os"), *keyboard], *elsewhere)
-        whole = ["-std=c11", "-Os", "-flto"]
+        whole = ["-std=c11", "-Os", "-flto", LOOPS]
         parts = [self.compile("firmware.c", *whole), self.compile("keyboard.c", *whole, of=PEER)]
         return self.link("firmware-peer", parts, *elsewhere, "-flto", "-Os")
+
+    def firmware_in_c(self):
+        """The same firmware over c/firmware."""
+        flags = f"-D warnings --sysroot {self.room.sysroot(self.target.triple)}"
+        folder = self.room.package("c/firmware")
+        self.room.cargo("build", "--release", "--target", self.target.triple, cwd=folder, RUSTC=DEBIAN_RUSTC, RUSTFLAGS=flags)
+        parts = [self.compile("firmware.c", "-std=c11", "-Os"), self.compile("through_c.c", "-std=c11", "-Os", f"-I{folder}")]
+        library = self.room.program("libwuzhikar.a", self.target.triple)
+        return self.link("firmware-in-c", [*parts, library], "-Wl,-e,main", "-Wl,--defsym=flash_cells=0x08008000")
 
     def text(self, program):
         """Bytes of code and constants."""
@@ -124,22 +135,9 @@ class Builds:
         return int(re.search(rf"^\S+ (\S+) [bB] {symbol}$", told, re.M)[1], 16)
 
 
-def sysroot(room, triple):
-    """A folder with Rust's core for a chip, by Debian's rustc."""
-    folder = room.path("sysroot-" + ".".join(map(str, version_of(DEBIAN_RUSTC))))
-    if not os.path.exists(f"{folder}/{triple}.made"):
-        room.run([f"{EXPORTER}/make_core.sh", DEBIAN_RUSTC, debian_sources(), triple, folder])
-        with open(f"{folder}/{triple}.made", "w", encoding="utf-8"):
-            pass
-    return folder
-
-
 def room():
-    """A folder for builds, with a copy of what is built by cargo."""
-    os.makedirs(FOLDER, exist_ok=True)
-    made = Room(FOLDER)
-    made.copy("bench/shim", f"{BENCH}/shim")
-    return made
+    """A folder for builds."""
+    return Room("bench")
 
 
 def versions():

@@ -9,6 +9,9 @@ from results import Row
 # Calls that may be repeated within a scan's time; what starts the device or works on the flash has a bound of its own.
 LONG = ("start", "restart", "work", "command with room", "compaction")
 
+# The smallest firmware over c/firmware, which has a lock, a pace and a layout at run time too.
+IN_C = "text of the smallest firmware over c/firmware, bytes"
+
 # Of these the worst one counts, of the others the mean; where each key is tried the worst is shown beside it.
 WORST = {"scan without an edge": "the worst of 10,000", "work in a compaction": "the longest call"}
 EACH_KEY = " one key, and the poll"
@@ -68,7 +71,10 @@ class Keyboards:
     def rows(self):
         """All rows."""
         ours, peer = self.numbers("ours"), self.numbers("peer")
-        return [Row(self.target.name, what, ours[what], peer[what]) for what in ours]
+        rows = [Row(self.target.name, what, ours[what], peer[what]) for what in ours]
+        if self.target.prefix:
+            rows.append(Row(self.target.name, IN_C, self.builds.text(self.builds.firmware_in_c()), None))
+        return rows
 
     def hot(self, name):
         """Lines of where our instructions of a name go, or of all, by function."""

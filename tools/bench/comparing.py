@@ -19,9 +19,9 @@ HERE = os.path.dirname(os.path.abspath(__file__))
 ROOT = os.path.dirname(os.path.dirname(HERE))
 sys.path[:0] = [f"{ROOT}/tools/export_rust", f"{ROOT}/tools"]
 
+import building
 from changes import replace_once
 from compare import answers, counted, difference
-from room import Failed, Room
 from texts import text
 
 BENCH = f"{ROOT}/bench"
@@ -35,7 +35,7 @@ PLANTED = [
     ("keymap.h", "return code - MODIFIER < 8;", "return code - MODIFIER < 7;"),
     ("keymap.h", "0xea, 0x192, 0x223", "0xea, 0x193, 0x223"),
     ("reports.h", "due == 3 ? kb.last == 1", "due == 3 ? kb.last != 2"),
-    ("reports.h", "memset(out + 2, ROLL_OVER, BOOT_PLACES);", "memset(out + 2, ROLL_OVER, BOOT_PLACES - 1);"),
+    ("reports.h", "to->words[1] = 0x01010101;", "to->words[1] = 0x010101;"),
     ("reports.h", "kb.age[1] >= 4u * kb.idle[1]", "kb.age[1] > 4u * kb.idle[1]"),
     ("reports.h", "least[i - 1] == usage) ||", "least[i - 1] > usage) ||"),
     ("state.h", "QUEUE = 8,", "QUEUE = 9,"),
@@ -118,12 +118,12 @@ class Scripts:
     def expected(self, number):
         """What the program of these words answers, asked for once."""
         if number not in self.kept:
-            self.kept[number] = answers(self.words, number, True)
+            self.kept[number] = answers(self.words, number)
         return self.kept[number]
 
     def difference(self, program, number):
         """The first answer that a program gives otherwise, in words; empty where none is."""
-        return difference(number, self.expected(number), answers([program], number, True))
+        return difference(number, self.expected(number), answers([program], number))
 
     def summary(self, count):
         return f"{count} scripts, {counted(map(self.expected, range(count)))}"
@@ -194,16 +194,15 @@ def compare_other(folder, count):
     if lacks:
         say(f"skipped: other default codes, since there is no {' and no '.join(lacks)} (Debian: rustc-web cargo-web)")
         return
-    room = Room(f"{folder}/room")
     try:
-        room.cargo("build", "--release", cwd=room.over("driver", "wuzhikar"))
-        codes = room.run([room.program("driver"), "codes"])
-    except Failed as why:
+        driver = f"{building.programs()}/driver"
+    except building.Wrong as why:
         raise Wrong(str(why)) from why
+    codes = subprocess.run([driver, "codes"], stdout=subprocess.PIPE, check=True).stdout
     with open(f"{folder}/codes", "wb") as file:
         file.write(codes)
     player = KEYBOARD._replace(planted=PLANTED_IN_CODES, defined=(f'-DKB_CODES="{folder}/codes"',))
-    compare_one(folder, player, Scripts([room.program("driver"), "other"]), count, "the exported crate, both with other default codes")
+    compare_one(folder, player, Scripts([driver, "other"]), count, "the exported crate, both with other default codes")
 
 
 def compare(scripts, texts):

@@ -25,6 +25,7 @@ ROWS = [
     "stack of any other call, bytes",
     "RAM of the keyboard, bytes",
     "text of the smallest firmware, bytes",
+    "text of the smallest firmware over c/firmware, bytes",
 ]
 
 # The row of code and constants.
@@ -44,7 +45,7 @@ def table(rows):
     text = line(["Instructions, or bytes", "Cortex-M4", "in C", "Cortex-M0+", "in C"]) + line(["---"] * 5)
     for name in ROWS:
         found = [by_key[target, name] for target in CHIPS]
-        text += line([name, *(f"{count:,}" for row in found for count in (row.ours, row.peer))])
+        text += line([name, *("-" if count is None else f"{count:,}" for row in found for count in (row.ours, row.peer))])
     return f"\n{text}\n"
 
 

@@ -3,7 +3,6 @@
 Instructions are those of callgrind, as the difference of two runs with more calls and fewer, divided by the calls.
 """
 
-import os
 import shutil
 import sys
 
@@ -12,11 +11,7 @@ from rattle import instructions
 from results import Row
 
 sys.path[:0] = [f"{ROOT}/tools", f"{ROOT}/tests"]
-from debian_crates import OF_PROGRAM, environment, unlocked
-from test_kbsim import read_cases
-
-# Without checks of overflow, as a driver is built.
-BUILT = {"CARGO_PROFILE_RELEASE_OVERFLOW_CHECKS": "false", "CARGO_PROFILE_RELEASE_DEBUG_ASSERTIONS": "false"}
+import program_steps
 
 # Of a keyboard in boot protocol a report of 8 bytes: left shift, and six keys.
 BOOT = "0200040506070809"
@@ -53,15 +48,11 @@ def many_places(usages):
 
 def touch_screen():
     """The report descriptor of 1,103 bytes of a touch screen."""
+    # Here, since it runs kbsim when it is read.
+    from test_kbsim import read_cases
+
     cases = read_cases(f"{ROOT}/tests/descriptors/real.rows")
     return "".join(cases["a_touch_screen: parse"][0].given.decode().split())
-
-
-def built(room, path, *crates):
-    """Builds a program of the repository for release, and gives the folder that it is in."""
-    made = {**environment(room.path("reading"), *crates), **BUILT, "CARGO_TARGET_DIR": room.path("reading", "target")}
-    room.run(["cargo", "build", "--release", "--quiet"], unlocked(room.path("reading", "source"), path), **made)
-    return room.path("reading", "target", "release")
 
 
 def rows(room):
@@ -69,9 +60,8 @@ def rows(room):
     for tool in ("cargo", "valgrind"):
         if not shutil.which(tool):
             raise Skipped(f"there is no {tool}")
-    os.makedirs(room.path("reading"), exist_ok=True)
-    count = f"{built(room, 'tests/reader/tell', 'arrayvec')}/count"
-    kbsim = f"{built(room, 'rust/kbsim', *OF_PROGRAM)}/kbsim"
+    room.cargo("build", "--profile", "counted", "--package", "tell", cwd=room.tree)
+    count, kbsim = room.program("count", profile="counted"), program_steps.built()
 
     def counted(*words):
         many, few = (instructions(room, [count, *words, times], b"") for times in ("111", "11"))
@@ -79,16 +69,20 @@ def rows(room):
 
     keyboard, text = "".join(example("keyboard")), touch_screen()
     alone = counted("parse", text)
-    lines = f"{BOOT}\n".encode()
-    read = [kbsim, "read", f"{ROOT}/examples/hid_driver/keyboard.hex"]
-    many, few = (instructions(room, read, lines * times) for times in (1100, 100))
+
+    def of_line(*words):
+        read = [kbsim, "read", *words, f"{ROOT}/examples/hid_driver/keyboard.hex"]
+        many, few = (instructions(room, read, f"{BOOT}\n".encode() * times) for times in (1100, 100))
+        return round((many - few) / 1000)
+
     return [
         Row("reader", "a boot report of a keyboard, 14 values", counted("read", keyboard, BOOT), None),
         Row("reader", "a report of a touch screen with ten contacts, 42 values", counted("read", *ten_fingers()), None),
         Row("reader", "1,024 settings of a field with one range of usages", counted("write", many_places(RANGE)), None),
         Row("reader", "1,024 settings of a field whose usages are declared one by one", counted("write", many_places(SINGLES)), None),
         Row("reader", "details of a descriptor of 1,103 bytes, beside its parse", counted("details", text) - alone, alone),
-        Row("reader", "a boot report in hex by `kbsim read`, its line of text with it", round((many - few) / 1000), None),
+        Row("reader", "a boot report in hex by `kbsim read`, its line of text with it", of_line(), None),
+        Row("reader", "a boot report in hex by `kbsim read --json`, its object with it", of_line("--json"), None),
     ]
 
 

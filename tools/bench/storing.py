@@ -6,7 +6,7 @@ Operations are counted over CHANGES changes on two pages of 4,096 bytes, each of
 
 import shutil
 
-from builds import BENCH, DEBIAN_RUSTC, TARGETS, Skipped, lacks, sysroot
+from builds import DEBIAN_RUSTC, TARGETS, Skipped, lacks
 from results import Row
 
 CHANGES = 60_000
@@ -19,7 +19,7 @@ CHIPS = {"thumbv7em": "Cortex-M4", "thumbv6m": "Cortex-M0+"}
 
 def built(room, folder, name, target):
     """A program for a chip."""
-    flags = f"-D warnings --sysroot {sysroot(room, target.triple)} -C linker=ld.lld -C linker-flavor=ld.lld"
+    flags = f"-D warnings --sysroot {room.sysroot(target.triple)} -C linker=ld.lld -C linker-flavor=ld.lld"
     room.cargo("build", "--release", "--bin", name, "--target", target.triple, cwd=folder, RUSTC=DEBIAN_RUSTC, RUSTFLAGS=flags)
     return room.program(name, target.triple)
 
@@ -55,7 +55,7 @@ def rows(room):
             raise Skipped(why)
     if not shutil.which("ld.lld"):
         raise Skipped("there is no ld.lld (Debian: lld)")
-    folder = room.copy("bench/settings", f"{BENCH}/settings")
+    folder = room.package("bench/settings")
     found = [row for target in targets for row in on_chip(room, folder, target)]
     return [Row("settings", what, number, None) for what, number in [*found, *operations(room, folder)]]
 

@@ -1,10 +1,16 @@
 """Tests of tools/bench: how a trace is counted, and how numbers are compared with the file that keeps them. They build nothing."""
 
+import os
+import subprocess
+import sys
 import unittest
 
 import counting
 import results
 from results import Row
+
+# Reads bench.py where no program may be started.
+ALONE = "import sys; sys.addaudithook(lambda event, _: event == 'subprocess.Popen' and sys.exit('a program is started')); import bench"
 
 # Two blocks between the marks, one of them twice; an instruction of ten bytes takes two lines.
 TRACE = b"""\
@@ -80,6 +86,15 @@ class Results(unittest.TestCase):
         edited = row._replace(bound="1.6")
         bounded = results.with_bounds([row._replace(bound="-")], {edited.key: edited})
         self.assertEqual(len(self.remarks(bounded[0], edited)[1]), 1)
+
+
+class Sections(unittest.TestCase):
+    """What bench.py reads before it measures."""
+
+    def test_no_program_is_started(self):
+        folder = os.path.dirname(os.path.abspath(__file__))
+        ran = subprocess.run([sys.executable, "-B", "-c", ALONE], cwd=folder, capture_output=True, text=True)
+        self.assertEqual((ran.returncode, ran.stderr), (0, ""))
 
 
 if __name__ == "__main__":

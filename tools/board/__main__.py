@@ -8,9 +8,10 @@ words of a record, and random sessions, also with other default codes. A chip th
 stands still while the host has no processor for QEMU. Calls are compared with bench/chip.tsv. A stock Linux, a BIOS and UEFI type on
 both loops (hosts.py). Faults are planted, and each has to be found (faults.py).
 
-Without a word a stride is taken over instructions and operations, and all takes a minute or two on four processors; what is not
-reached in five minutes is named. --long takes all of them, tells how far it is, keeps what is done in its folder, and goes on from
-there when it is called again.
+Without a word a stride is taken over instructions and operations, and all takes a minute or two on four processors. The least always
+runs, whatever time it takes: a session, cuts of each kind and a planted fault, of the first firmware. What is not reached in the five
+minutes behind it is skipped by name. --long takes all instructions and operations, tells how far it is, keeps what is done in its
+folder, and goes on from there when it is called again.
 
 It needs rustc, cargo, the crate arrayvec, rustc's core for thumbv6m-none-eabi or its sources, ld.lld, gcc, and qemu-system-arm 7.2;
 for the hosts what bin/linux-test needs. What is missing is said by name, and the status is then 0. Nothing is installed.
@@ -21,44 +22,60 @@ import concurrent.futures
 import os
 import sys
 import tempfile
+import time
 
 sys.dont_write_bytecode = True
 
 import rig
 import tasks
 import whole
-from room import Failed, Room
+from room import Failed, Room, building
 from target_steps import SOURCES, variables
 
-MINUTES = 5  # that a run without --long has
+MINUTES = 5  # that a run without --long has, once the least has run
+LEAST = 60  # minutes, in which the least has to run on any machine
 PARTS = ("calls", "cuts", "hosts", "faults")
 
 
-def short(bench, given):
-    """Runs the parts that are asked for, beside one another where there are processors; whether nothing failed."""
-    asked = [given.only] if given.only else PARTS
+def short(bench, lists, minutes):
+    """Runs what always runs of these lists of tasks, and then the rest in so many minutes; whether nothing failed."""
+    return all(beside(bench, [[task for task in tasks if task.least == least] for tasks in lists], limit)
+               for least, limit in [(True, LEAST), (False, minutes)])
+
+
+def beside(bench, lists, minutes):
+    """Runs lists of tasks in so many minutes, beside one another where there are processors; whether nothing failed."""
+    bench.clock = rig.Time(minutes)
+    with concurrent.futures.ThreadPoolExecutor(min(len(lists), len(os.sched_getaffinity(0)))) as threads:
+        return all([*threads.map(lambda some: tasks.run(bench, some), lists)])
+
+
+def asked(bench, given):
+    """The tasks of the parts that are asked for."""
     lists = {
         "hosts": tasks.of_hosts(bench),
         "faults": tasks.of_faults(bench),
         "calls": [tasks.Task("calls", 30, lambda: tasks.measure(bench, given.write))],
         "cuts": tasks.of_cuts(bench, given.seed),
     }
-    with concurrent.futures.ThreadPoolExecutor(min(len(lists), len(os.sched_getaffinity(0)))) as threads:
-        return all([*threads.map(lambda part: tasks.run(bench, lists[part]), [part for part in lists if part in asked])])
+    return [some for part, some in lists.items() if given.only in (None, part)]
 
 
-def play(folder, given, clock):
+def play(folder, given):
     """Builds and runs all in a folder; whether nothing failed."""
-    room = Room(folder)
+    room, begun = Room(folder), time.monotonic()
     try:
         more = variables(room, rig.TARGET)
         if more is None:
             rig.say(f"skipped: {rig.TARGET}, which this rustc has no core for ({SOURCES})")
             return True
-        bench = rig.Bench(room, more, clock)
-        rig.say(f"built in {clock.spent():.0f} s")
-        return whole.Whole(bench, given).run(given.jobs) if given.long else short(bench, given)
-    except Failed as why:
+        bench = rig.Bench(room, more)
+        rig.say(f"built in {time.monotonic() - begun:.0f} s")
+        if not given.long:
+            return short(bench, asked(bench, given), given.minutes)
+        bench.clock = rig.Time(given.minutes)
+        return whole.Whole(bench, given).run(given.jobs)
+    except (Failed, building.Wrong) as why:
         rig.say(f"FAILED: {why}")
         return False
 
@@ -67,7 +84,7 @@ def arguments():
     """What is asked for."""
     words = argparse.ArgumentParser(prog="board-test", description=__doc__, formatter_class=argparse.RawDescriptionHelpFormatter)
     words.add_argument("--long", metavar="CUTS", type=int, help="all instructions, all operations, and so many random cuts; it goes on where it was ended")
-    words.add_argument("--minutes", metavar="N", type=float, help=f"what is not reached in this time is named ({MINUTES}; with --long no end)")
+    words.add_argument("--minutes", metavar="N", type=float, help=f"what is not reached in this time is skipped by name ({MINUTES}; with --long no end)")
     words.add_argument("--jobs", metavar="N", type=int, default=max(1, len(os.sched_getaffinity(0)) // 2),
                        help="so many chips at once, for --long (half of the processors)")
     words.add_argument("--folder", metavar="DIR", help="builds in this folder, which stays, so that a further run is faster; --long takes out/board")
@@ -88,14 +105,14 @@ def main():
     if lacks:
         rig.say(f"skipped: {lacks}")
         return 0
-    clock = rig.Time(given.minutes)
+    begun = time.monotonic()
     if given.folder:
         os.makedirs(given.folder, exist_ok=True)
-        passed = play(os.path.abspath(given.folder), given, clock)
+        passed = play(os.path.abspath(given.folder), given)
     else:
         with tempfile.TemporaryDirectory() as folder:
-            passed = play(folder, given, clock)
-    rig.say(f"{clock.spent():.0f} s altogether")
+            passed = play(folder, given)
+    rig.say(f"{time.monotonic() - begun:.0f} s altogether")
     return 0 if passed else 1
 
 

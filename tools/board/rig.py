@@ -13,6 +13,7 @@ HERE = os.path.dirname(os.path.abspath(__file__))
 ROOT = os.path.dirname(os.path.dirname(HERE))
 sys.path[:0] = [f"{ROOT}/tools", f"{ROOT}/tools/export_rust"]
 
+import building  # noqa: E402
 from debian_crates import environment, lacking  # noqa: E402
 from faults import LAYOUT, plant  # noqa: E402
 from room import Failed  # noqa: E402
@@ -22,6 +23,10 @@ PROGRAMS = {"rustc": "rustc-web", "cargo": "cargo-web", "cc": "gcc", "ld.lld": "
 LOOPS = {"asked at the token": "", "with buffers": "buffers"}
 # Each is cut and measured. The features of a firmware by its name.
 FIRMWARES = LOOPS | {"error correction": "ecc"}
+# The firmware in C over c/firmware, with buffers.
+IN_C = {"in C": "c"}
+WITH_BUFFERS = ("with buffers", *IN_C)
+C_PROGRAMS = {"arm-none-eabi-gcc": "gcc-arm-none-eabi", "make": "make"}
 # The firmware asked at the token with other default codes (faults.py), which random sessions cut.
 OTHER = {"other default codes": "layout"}
 
@@ -31,7 +36,8 @@ class NoTime(Exception):
 
 
 def say(text):
-    print(f"board-test: {text}", flush=True)
+    # In one piece, since several threads say something.
+    print(f"board-test: {text}\n", end="", flush=True)
 
 
 def missing():
@@ -71,18 +77,20 @@ class Time:
 class Bench:
     """The firmware, the power switch and the host."""
 
-    def __init__(self, room, more, clock):
-        self.room, self.more, self.clock, self.building, self.detached = room, more, clock, threading.Lock(), False
-        room.environment.update(environment(room.folder, "arrayvec"))
-        self.folder = room.copy("examples/chip_nrf51", f"{ROOT}/examples/chip_nrf51")
+    def __init__(self, room, more):
+        self.room, self.more, self.clock, self.building, self.detached = room, more, Time(), threading.Lock(), False
+        # Faults are planted there, so what is built of it is in no folder of others.
+        room.environment.update(environment(room.folder, "arrayvec"), CARGO_TARGET_DIR=room.path("target"))
+        room.copy("rust")
+        self.folder = room.copy("examples/chip_nrf51")
         self.switch = room.path("switch.so")
         # An earlier run in this folder has left what was built of planted faults, which cargo takes for new.
         shutil.rmtree(room.path("target", TARGET), ignore_errors=True)
         room.run(["cc", "-std=gnu11", "-O2", "-Wall", "-Wextra", "-Werror", "-shared", "-fPIC", f"{HERE}/switch.c", "-o", self.switch])
-        room.copy("examples/real_host", f"{ROOT}/examples/real_host")
-        room.cargo("build", "--release", cwd=room.copy("tools/board", HERE))
+        self.host = f"{building.programs()}/board"
         for features in FIRMWARES.values():
             self.build(features, self.firmware(features))
+        self.firmwares = FIRMWARES | self.build_in_c()
         mend = plant(room.folder, LAYOUT)
         self.build("", self.firmware("layout"))
         mend()
@@ -97,9 +105,22 @@ class Bench:
         self.room.cargo("build", "--release", *words, cwd=self.folder, **self.more)
         shutil.copyfile(self.room.program("chip_nrf51", TARGET), path)
 
+    def build_in_c(self):
+        """Builds the firmware in C: its name, or nothing where it can't be built here."""
+        lacks = [f"{name} (Debian: {package})" for name, package in C_PROGRAMS.items() if not shutil.which(name)]
+        if lacks:
+            say(f"skipped: the firmware in C, since there is no {' and no '.join(lacks)}")
+            return {}
+        folder = self.room.copy("c/firmware")
+        self.room.cargo("build", "--release", "--target", TARGET, cwd=folder, **self.more)
+        made = f"{folder}/examples/chip_nrf51"
+        self.room.run(["make", "-C", made, f"LIBRARY={self.room.program('libwuzhikar.a', TARGET)}"])
+        shutil.copyfile(f"{made}/chip_nrf51.elf", self.firmware("c"))
+        return IN_C
+
     def board(self, firmware):
         """The words of the program that runs this firmware."""
-        return [self.room.program("board"), firmware, self.switch]
+        return [self.host, firmware, self.switch]
 
     def run(self, firmware, *words):
         """Runs a test: whether it passed, and what it told. The rig ends by itself where the chip is silent."""

@@ -37,7 +37,8 @@ extern bool qemu_plugin_mem_is_store(qemu_plugin_meminfo_t);
 extern void *qemu_plugin_get_hwaddr(qemu_plugin_meminfo_t, uint64_t);
 
 enum { FLASH = 256 * 1024, REGION = 32 * 1024, FIRST = FLASH - REGION, UNIT = 1024 };
-static const uint64_t RAM = 0x20000000, RAM_BYTES = 16 * 1024, ERASE_PAGE = 0x4001E508, RX_READY = 0x40002108;
+static const uint64_t RAM = 0x20000000, RAM_BYTES = 16 * 1024, FLASH_READY = 0x4001E400, FLASH_CONFIG = 0x4001E504, ERASE_PAGE = 0x4001E508,
+    RX_READY = 0x40002108;
 
 struct order { // where the power goes
     uint64_t tick;      // at this tick
@@ -52,7 +53,7 @@ struct told {
     uint64_t kind; // 0 a start, 1 a cut
     uint64_t ticks, instructions, operations;
     uint64_t inside; // 0 between two operations, 1 inside a program, 2 inside an erase
-    uint64_t not_blank, often, outside; // rules of the flash that were broken
+    uint64_t not_blank, often, outside, busy; // rules of the flash that were broken
     uint64_t erases, stack, log;
     uint64_t start, longest; // instructions up to the first look at the line, and the most between two looks since the last order
 };
@@ -68,6 +69,8 @@ static uint64_t reset_at, bss_end, log_bytes;
 static struct order order;
 static struct told told;
 static bool dead = true;
+// Behind an operation the flash is busy until the firmware asks whether it is: QEMU's is always ready then.
+static bool busy;
 static uint64_t lowest = RAM_BYTES, looked;
 static uint64_t noise = 88172645463325252u;
 
@@ -128,7 +131,7 @@ static void start(unsigned cpu, void *data)
     memset(&told, 0, sizeof told);
     lowest = RAM_BYTES;
     looked = 0;
-    dead = false;
+    busy = dead = false;
 }
 
 static void cut(uint64_t inside)
@@ -192,6 +195,7 @@ static void operated(size_t from, size_t length, uint32_t takes, uint64_t inside
         cut(inside);
     }
     memcpy(shadow + from, flash + from, length);
+    busy = true;
 }
 
 static void programmed(uint64_t address)
@@ -217,7 +221,9 @@ static void erased(void)
 static void stored(unsigned cpu, qemu_plugin_meminfo_t info, uint64_t address, void *data)
 {
     (void)cpu, (void)data;
+    if (!dead && busy && (address - FLASH_CONFIG < 8 || (address >= FLASH - log_bytes && address < FLASH))) told.busy++;
     if (!qemu_plugin_mem_is_store(info)) {
+        if (address == FLASH_READY) busy = false;
         if (address == RX_READY && !dead) look();
         return;
     }

@@ -4,7 +4,7 @@ from typing import Callable, NamedTuple
 
 from faults import FAULTS, HARMLESS, is_found, plant
 from hosts import MISSING, Hosts, Over
-from rig import FIRMWARES, LOOPS, OTHER, ROOT, NoTime, say
+from rig import FIRMWARES, LOOPS, OTHER, ROOT, WITH_BUFFERS, NoTime, say
 from room import Failed
 
 CALLS = f"{ROOT}/bench/chip.tsv"
@@ -15,11 +15,12 @@ HEAD = [
 
 
 class Task(NamedTuple):
-    """What is done: its name, the seconds that a busy machine takes for it, and what does it, which tells."""
+    """What is done: its name, the seconds that a busy machine takes for it, what does it, which tells, and whether it always runs."""
 
     name: str
     seconds: int
     act: Callable[[], None]
+    least: bool = False
 
 
 def allowed(kept):
@@ -30,14 +31,14 @@ def allowed(kept):
 def measure(bench, write):
     """Compares what calls of each firmware take with what is kept, where the same rustc built it; or keeps it."""
     version = bench.room.run([bench.more.get("RUSTC", "rustc"), "--version"]).decode().strip()
-    rows = [f"{name}\t{row}" for name, features in FIRMWARES.items() for row in bench.told(name, features, "measure").splitlines()]
+    rows = [f"{name}\t{row}" for name, features in bench.firmwares.items() for row in bench.told(name, features, "measure").splitlines()]
     if write:
         with open(CALLS, "w", encoding="utf-8") as file:
             file.write("\n".join([*HEAD, f"# {version}", "firmware\twhat\tcount", *rows, ""]))
     with open(CALLS, encoding="utf-8") as file:
         kept = file.read().splitlines()
     if f"# {version}" not in kept:
-        say(f"calls are not compared: {version} is another rustc than that of bench/chip.tsv")
+        say(f"skipped: what calls take is not compared ({version} is another rustc than that of bench/chip.tsv)")
         return
     counts = dict(row.rsplit("\t", 1) for row in kept if not row.startswith("#"))
     more = [f"{row}, and {counts.get(what)} is kept" for row in rows for what, count in [row.rsplit("\t", 1)]
@@ -96,7 +97,7 @@ class Typing:
         try:
             self.hosts = self.hosts or Hosts(self.bench.room.path("hosts"), self.bench.clock.end())
         except MISSING as lacks:
-            say(f"skipped: hosts that type on it: {lacks}")
+            say(f"skipped: {name}: hosts that type on it ({lacks})")
             return
         board = self.bench.board(self.bench.firmware(features))
         try:
@@ -117,35 +118,38 @@ def of_hosts(bench):
 def of_cuts(bench, seed):
     """The tasks that cut, the firmwares in turn."""
     told = lambda name, features, words: lambda: say(f"{name}: {bench.told(name, features, *words)}")  # noqa: E731
-    tasks = [Task(f"{name}: a session", 5, lambda name=name, features=features: session(bench, name, features))
-             for name, features in FIRMWARES.items()]
-    tasks += [Task(f"{name}: {words[0]}", 25, told(name, features, words))
-              for words in [["starved"]] for name, features in list(FIRMWARES.items())[:1]]
+    first = next(iter(FIRMWARES))
+    tasks = [Task(f"{name}: a session", 5, lambda name=name, features=features: session(bench, name, features), name == first)
+             for name, features in bench.firmwares.items()]
+    tasks += [Task(f"{first}: starved", 25, told(first, FIRMWARES[first], ["starved"]))]
+    tasks += [Task(f"{name}: armed", 5, told(name, features, ["armed"])) for name, features in bench.firmwares.items() if name in WITH_BUFFERS]
     tasks += [Task(f"{name}: random cuts", 25, told(name, features, ["layout", "300", str(seed)])) for name, features in OTHER.items()]
-    rows = [(name, features, cuts(features, seed)) for name, features in FIRMWARES.items()]
-    tasks += [Task(f"{name}: {' '.join(words[at])}", 25, told(name, features, words[at]))
+    rows = [(name, features, cuts(features, seed)) for name, features in bench.firmwares.items()]
+    tasks += [Task(f"{name}: {' '.join(words[at])}", 25, told(name, features, words[at]), name == first)
               for at in range(4) for name, features, words in rows]
     return tasks
 
 
 def of_faults(bench):
-    """The tasks that plant."""
-    return [Task(f"planted: {fault.name}", 25, lambda fault=fault: find(bench, fault)) for fault in [*FAULTS, HARMLESS]]
+    """The tasks that plant. The first fault always is."""
+    return [Task(f"planted: {fault.name}", 25, lambda fault=fault: find(bench, fault), fault is FAULTS[0]) for fault in [*FAULTS, HARMLESS]]
 
 
 def run(bench, tasks):
     """Runs tasks one after the other up to the first that fails, which is told at once: whether none did. What isn't reached in the
-    time that is left is named: a task may take as long as the longest before it."""
+    time that is left is skipped by name, where it doesn't always run: a task may take as long as the longest before it."""
     longest = 0
     try:
         for task in tasks:
             begun = bench.clock.spent()
             try:
-                if not bench.clock.allows(max(task.seconds, longest)):
+                if not task.least and not bench.clock.allows(max(task.seconds, longest)):
                     raise NoTime
                 task.act()
-            except NoTime:
-                say(f"not reached in {bench.clock.minutes} minutes: {task.name}")
+            except NoTime as error:
+                if task.least:
+                    raise Failed(f"{task.name}: not over in {bench.clock.minutes:g} minutes, and nothing is said without it") from error
+                say(f"skipped: {task.name} (not reached in {bench.clock.minutes:g} minutes)")
             longest = max(longest, bench.clock.spent() - begun)
     except Failed as why:
         say(f"FAILED: {why}")

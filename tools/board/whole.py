@@ -7,7 +7,7 @@ import signal
 import time
 from typing import NamedTuple
 
-from rig import FIRMWARES, OTHER, NoTime, say
+from rig import OTHER, NoTime, say
 from room import Failed
 
 MOST = 150_000  # so many instructions of a session are cut; of a longer one by a stride
@@ -47,9 +47,9 @@ class Whole:
     def __init__(self, bench, given):
         self.bench, self.path = bench, bench.room.path("long.tsv")
         bench.detached = True  # a signal ends this program alone, so that the pieces under way come to their counts
-        self.sums = {name: bench.sum(features) for name, features in (FIRMWARES | OTHER).items()}
-        lengths = {name: [int(word) for word in bench.told(name, features, "lengths").split()] for name, features in FIRMWARES.items()}
-        rows = [pieces(name, features, lengths[name], given.long, given.seed) for name, features in FIRMWARES.items()]
+        self.sums = {name: bench.sum(features) for name, features in (bench.firmwares | OTHER).items()}
+        lengths = {name: [int(word) for word in bench.told(name, features, "lengths").split()] for name, features in bench.firmwares.items()}
+        rows = [pieces(name, features, lengths[name], given.long, given.seed) for name, features in bench.firmwares.items()]
         rows += [random(name, features, "layout", given.long, given.seed) for name, features in OTHER.items()]
         # Of each kind first, so that a run that is ended has met all of them.
         kinds = ["operations", "words", "random", "layout", "instructions"]

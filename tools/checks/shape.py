@@ -25,7 +25,7 @@ LEFT_OUT = [
     r"completions/",
     r"crates/explanations/src/usages\.rt$",
     r"rust/wuzhikar-hid/src/usages\.rs$",
-    r"examples/hid_reader/hid_usages\.h$",
+    r"c/reader/hid_usages\.h$",
 ]
 
 # What begins a function in a language with braces, up to its name. A closure of Rust belongs to the function around it.

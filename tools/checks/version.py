@@ -1,5 +1,5 @@
-"""Compares each version that the repository names with the file VERSION, and the Cargo.lock of each program with its manifests.
-Takes no time; bin/test calls it."""
+"""Compares each version that the repository names with the file VERSION, the Cargo.lock of each program with its manifests, and the
+manifests of the crates with what their packages need. Takes no time; bin/test calls it."""
 
 import argparse
 import glob
@@ -17,12 +17,16 @@ PLACES = [
     ("README.md", rf"^\*\*Version {NUMBER}\*\*$", True),
     ("rust/Cargo.toml", rf'^version = "{NUMBER}"', False),
     ("rust/*/Cargo.toml", rf'^version = "{NUMBER}"', False),
+    ("c/*/Cargo.toml", rf'^version = "{NUMBER}"', True),
+    ("python/pyproject.toml", rf'^version = "{NUMBER}"', True),
+    ("c/firmware/arduino/library.properties", rf"^version={NUMBER}$", True),
     ("docs/kbsim.1", rf'^\.TH KBSIM 1 .*"kbsim {NUMBER}"', True),
-    ("tools/make/completions/Cargo.toml", rf'^version = "{NUMBER}"', True),
+    ("Cargo.toml", rf'^version = "{NUMBER}"', True),
 ]
 
 # The programs whose Cargo.lock is kept, and the manifests that it is of.
-LOCKED = {"rust": "rust/*/Cargo.toml", "examples/keymap": "examples/keymap/Cargo.toml"}  # (of rust/ those of its workspace)
+LOCKED = {"rust": "rust/*/Cargo.toml"}  # (those of its workspace)
+LICENCES = ("LICENSE-APACHE", "LICENSE-MIT")
 REGISTRY = "registry+https://github.com/rust-lang/crates.io-index"
 
 
@@ -39,7 +43,7 @@ def wrong_in_lock(root, folder, version):
     packages = {one["name"]: one for one in read_toml(f"{root}/{name}")["package"]}
     wrong = []
     for crate, one in packages.items():
-        ours = crate.startswith(("wuzhikar", "kbsim"))
+        ours = "source" not in one
         if ours and one["version"] != version:
             wrong.append(f"{name}: {crate} is {one['version']}, and VERSION {version}")
         if "source" in one and (one["source"] != REGISTRY or not re.fullmatch("[0-9a-f]{64}", one.get("checksum", ""))):
@@ -47,6 +51,22 @@ def wrong_in_lock(root, folder, version):
     members = [read_toml(path) for path in glob.glob(f"{root}/{LOCKED[folder]}")]
     wanted = {crate for one in members if folder != "rust" or "workspace" not in one for crate in one.get("dependencies", {})}
     return wrong + [f"{name}: it has no {crate}" for crate in sorted(wanted - set(packages))]
+
+
+def wrong_in_crates(root, version):
+    """What would be wrong with the packages of the crates of rust/, a sentence each."""
+    whole = read_toml(f"{root}/rust/Cargo.toml")["workspace"]
+    wrong = [f"rust/Cargo.toml: {name} is to be of version ={version}" for name, given in whole["dependencies"].items()
+             if "path" in given and given.get("version") != f"={version}"]
+    for name in whole["members"]:
+        package = read_toml(f"{root}/rust/{name}/Cargo.toml")
+        if package["package"].get("publish", True):
+            wrong += [f"rust/{name} has no {file}" for file in LICENCES if not os.path.isfile(f"{root}/rust/{name}/{file}")]
+            wrong += [f"rust/{name}: {key} is to be that of rust/Cargo.toml" for key in whole["package"] if key not in package["package"]]
+        for tables in (package, *package.get("target", {}).values()):
+            wrong += [f"rust/{name}: {crate} is to be that of rust/Cargo.toml" for kind in ("dependencies", "dev-dependencies")
+                      for crate, given in tables.get(kind, {}).items() if "workspace" not in given and given.get("path") != "."]
+    return wrong
 
 
 def found_in(path, pattern):
@@ -76,6 +96,7 @@ def wrong_places(root):
                 wrong.append(f"{name} names no version")
             elif found not in (None, version):
                 wrong.append(f"{name}:{line} says {found}, and VERSION {version}")
+    wrong += wrong_in_crates(root, version)
     return wrong + [sentence for folder in LOCKED for sentence in wrong_in_lock(root, folder, version)]
 
 

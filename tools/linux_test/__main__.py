@@ -1,12 +1,12 @@
 """Hangs the exported keyboard on a stock Linux, on a BIOS and on UEFI, in QEMU, and compares what they say with what they should.
 
 One Linux boots with a keyboard for each packet size of endpoint 1, by USB/IP, and one behind the machine's own controller, by USB
-redirection. The lists of examples/real_host/linux are followed on each. Then it gets devices of real report descriptors, by uhid,
+redirection. The lists of tests/real_host/linux are followed on each. Then it gets devices of real report descriptors, by uhid,
 and what it makes of them and of their reports is compared with what `kbsim` says (values.py). SeaBIOS is started once for each size and controller, the
 shell of UEFI once with a keyboard of each size.
 
 It needs rustc, cargo, the crate arrayvec, gcc with a static libc, qemu-system-x86_64, busybox-static and kmod; OVMF for UEFI, and
-serde_json and serde_derive for examples/keymap, serde_json for `kbsim read`. What is not there is skipped by name. The variable LINUX names a folder with
+the crates of rust/ for the programs keymap and kbsim. What is not there is skipped by name. The variable LINUX names a folder with
 boot/vmlinuz-* and lib/modules; without it Debian's kernel is fetched by apt-get download into a cache (CACHE, or wuzhikar in
 ~/.cache), and nothing is installed.
 """
@@ -72,7 +72,7 @@ class Test:
         """A stock Linux, and the lists."""
         reader = parts.reader()
         if not reader:
-            print(f"linux-test: skipped: the values of reports, as Linux has them (Debian: {parts.READER[1]})")
+            print(f"linux-test: skipped: the values of reports, as Linux has them (Debian: {parts.WORKSPACE[1]})")
         if reader:
             self.values = Values(reader, self.work)
             self.programs |= {"kbsim": reader, **parts.linked(reader)}
@@ -83,7 +83,7 @@ class Test:
             return
         every = lists.followed(self.programs)
         if "keymap" not in self.programs:
-            print(f"linux-test: skipped: examples/keymap, whose crates are not there (Debian: {parts.KEYMAP[1]})")
+            print(f"linux-test: skipped: rust/keymap, whose crates are not there (Debian: {parts.WORKSPACE[1]})")
         begun, words = time.monotonic(), f"attach={','.join(map(str, self.sizes))} values=1"
         attached = [(name, str(size), size) for size in self.sizes for name in every]
         found, differing = machines.follow(self.work, self.keyboard(WIRE, "wire"), (kernel, disk), every, words, attached)

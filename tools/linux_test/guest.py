@@ -7,7 +7,7 @@ import stat
 import struct
 import subprocess
 
-FILES = f"{os.path.dirname(os.path.dirname(os.path.dirname(os.path.abspath(__file__))))}/examples/real_host/linux"
+FILES = f"{os.path.dirname(os.path.dirname(os.path.dirname(os.path.abspath(__file__))))}/tests/real_host/linux"
 MODULES = ["evdev", "usbhid", "hid-generic", "vhci-hcd", "xhci-pci", "uhid"]
 PAGE, SLOTS, LAYERS, KEYS = 4096, 512, 4, 96
 
@@ -50,7 +50,7 @@ def modules(tree, release, names=MODULES):
 
 
 def disk(tree, release, programs, reports):
-    """The RAM disk: busybox, modules, the files of examples/real_host/linux, programs by their names, and the reports for uhid."""
+    """The RAM disk: busybox, modules, the files of tests/real_host/linux, programs by their names, and the reports for uhid."""
     paths = modules(tree, release)
     files = {f"modules.d/{os.path.basename(path)}": read(path) for path in paths}
     files["modules"] = "".join(f"/modules.d/{os.path.basename(path)}\n" for path in paths).encode()

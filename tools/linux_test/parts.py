@@ -11,7 +11,8 @@ import sys
 ROOT = os.path.dirname(os.path.dirname(os.path.dirname(os.path.abspath(__file__))))
 sys.path.insert(0, f"{ROOT}/tools")
 
-from debian_crates import OF_PROGRAM, environment, lacking, unlocked  # noqa: E402
+import building  # noqa: E402
+from debian_crates import OF_PROGRAM, lacking  # noqa: E402
 
 # Programs, and Debian's packages of them.
 PROGRAMS = {
@@ -19,11 +20,8 @@ PROGRAMS = {
     "busybox": "busybox-static",
 }
 OVMF = "/usr/share/ovmf/OVMF.fd"
-# The crates of examples/keymap, and their packages.
-KEYMAP = (["arrayvec", "serde_json", "serde_derive"], "librust-serde-json-dev librust-serde-derive-dev")
-
-# Those of rust/kbsim.
-READER = (list(OF_PROGRAM), " ".join(f"librust-{name.replace('_', '-')}-dev" for name in OF_PROGRAM))
+# The crates of the workspace rust/, and their packages: for rust/keymap, and for rust/kbsim.
+WORKSPACE = (list(OF_PROGRAM), " ".join(f"librust-{name.replace('_', '-')}-dev" for name in OF_PROGRAM))
 
 
 class Missing(Exception):
@@ -89,26 +87,22 @@ def build(work):
     them."""
     host = subprocess.run(["rustc", "-vV"], check=True, stdout=subprocess.PIPE, text=True).stdout
     target = next(line.split()[1] for line in host.splitlines() if line.startswith("host: "))
-    built = os.environ.get("CARGO_TARGET_DIR") or f"{ROOT}/examples/real_host/target"
-    names = {"real_host": ["arrayvec"]}
-    if not are_there(names["real_host"]):
+    if not are_there(["arrayvec"]):
         raise Missing("no crate arrayvec (Debian: librust-arrayvec-dev)")
-    if are_there(KEYMAP[0]):
-        names["keymap"] = KEYMAP[0]
-    for name, crates in names.items():
-        variables = {**environment(f"{work}/{name}", *crates), "RUSTFLAGS": "-D warnings -C target-feature=+crt-static"}
-        command = ["cargo", "build", "-q", "--release", "--target", target, "--target-dir", built]
-        subprocess.run(command, cwd=unlocked(work, f"examples/{name}"), env=variables, check=True)
+    folders = {"real_host": "", **({"keymap": "rust"} if are_there(WORKSPACE[0]) else {})}
+    variables = {"RUSTFLAGS": "-D warnings -C target-feature=+crt-static"}
+    for name, folder in folders.items():
+        building.cargo("build", "-q", "--release", "--target", target, "--package", name, folder=folder, **variables)
     in_c = {name: f"{work}/{name}" for name in ("host", "uhid")}
     for name, path in in_c.items():
         words = ["-std=c11", "-D_DEFAULT_SOURCE", "-O1", "-static", "-Wall", "-Wextra", "-Werror", "-o", path]
-        subprocess.run(["cc", *words, f"{ROOT}/examples/real_host/linux/{name}.c"], check=True)
-    return {**in_c, **{name: f"{built}/{target}/release/{name}" for name in names}}
+        subprocess.run(["cc", *words, f"{ROOT}/tests/real_host/linux/{name}.c"], check=True)
+    return {**in_c, **{name: f"{building.TARGET}/{target}/release/{name}" for name in folders}}
 
 
 def reader():
     """The program of `kbsim read`, which runs beside the guest; empty where its crates are not there."""
-    if not are_there(READER[0]):
+    if not are_there(WORKSPACE[0]):
         return ""
     words = [f"{ROOT}/bin/kbsim", "--way", "plain", "--path", "read"]
     return subprocess.run(words, check=True, stdout=subprocess.PIPE, text=True).stdout.strip()

@@ -19,7 +19,7 @@ import values  # noqa: E402
 from machines import SECTOR  # noqa: E402
 from processes import Silent, running  # noqa: E402
 
-HERE = f"{parts.ROOT}/examples/real_host/linux"
+HERE = f"{parts.ROOT}/tests/real_host/linux"
 
 
 def unpack(archive):

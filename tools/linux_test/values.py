@@ -1,6 +1,6 @@
 """What Linux makes of report descriptors and reports, beside what `kbsim` says of them.
 
-examples/real_host/linux/uhid.c makes devices of real report descriptors in the guest, sends reports drawn here, and tells the keys
+tests/real_host/linux/uhid.c makes devices of real report descriptors in the guest, sends reports drawn here, and tells the keys
 that are down, the absolute axes and the moves. `Linux` says from the reader's values what that has to be, by the rules of Linux
 (drivers/hid/hid-core.c, hid-input.c). Each rule that makes Linux say something else than the reader is counted by its name.
 
@@ -13,6 +13,7 @@ import glob
 import json
 import os
 import random
+import re
 import subprocess
 from itertools import zip_longest
 
@@ -29,8 +30,9 @@ HAT, HAT_CODES = 0x00010039, (16, 17)
 HAT_AXES = [(0, 0), (0, -1), (1, -1), (1, 0), (1, 1), (0, 1), (-1, 1), (-1, 0), (-1, -1)]
 ROLLOVER, MULTIPLIER, NOTCH = 0x00070001, 0x00010048, 120
 LEDS = range(0x00080001, 0x00080006)  # Num Lock to Kana, which Linux counts from 0
-# What `kbsim read --live` ends with when the device is gone.
-GONE = ["fault input", "the reports can't be read: Input/output error (os error 5)"]
+# What `kbsim read --live` ends with when the device is gone; its file has another number each time.
+FILE = re.compile("^/dev/hidraw[0-9]+: ")
+GONE = ["fault input", "FILE: the reports can't be read: Input/output error (os error 5)"]
 COMPARED = set(ABSOLUTE.values()) | set(HAT_CODES)
 
 
@@ -295,7 +297,7 @@ class Values:
         for line in said:
             word, _, rest = line.partition(" ")
             lines = told.setdefault(rest, collections.defaultdict(list)) if word == "device" else lines
-            lines[word].append(rest)
+            lines[word].append(FILE.sub("FILE: ", rest))
         for name, device in self.devices.items():
             lines = told.get(name, collections.defaultdict(list))
             found += self.parsed.differences(name, device.reader.told, lines["P"])

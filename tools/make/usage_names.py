@@ -146,7 +146,7 @@ def in_c(pages):
 MADE = {
     "crates/explanations/src/usages.rt": explained,
     "rust/wuzhikar-hid/src/usages.rs": in_rust,
-    "examples/hid_reader/hid_usages.h": in_c,
+    "c/reader/hid_usages.h": in_c,
 }
 
 

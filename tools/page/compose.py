@@ -4,13 +4,14 @@ import base64
 import hashlib
 import json
 import re
+from html import escape
 
 from . import core
 
 ROOT = core.ROOT
 FOLDER = ROOT / "web/page"
 PAGE = ROOT / "web/wuzhikar.html"
-LIMIT = 340_000
+LIMIT = 360_000
 FIRST = "app.js"
 BUILT = "built.js"
 IMPORT = re.compile(r'^import \{([^}]*)\} from "\./([a-z_]+\.js)";\n', re.M)
@@ -89,7 +90,8 @@ def page(wasm, after=""):
     policy = (f"default-src 'none'; script-src {digest(script)} 'wasm-unsafe-eval'; style-src {digest(style)}; "
               "connect-src 'none'; img-src data:; base-uri 'none'; form-action 'none'")
     html = (FOLDER / "index.html").read_text()
-    for mark, text in {"%POLICY%": policy, "%STYLE%": style, "%SCRIPT%": script}.items():
+    licence = escape((ROOT / "LICENSE-MIT").read_text().strip())
+    for mark, text in {"%LICENCE%": licence, "%POLICY%": policy, "%STYLE%": style, "%SCRIPT%": script}.items():
         if html.count(mark) != 1:
             raise Wrong(f"web/page/index.html: {mark} does not stand there once")
         html = html.replace(mark, text)
@@ -107,13 +109,26 @@ def module_of(html):
 def build(make):
     """Writes the page, with a module that `make` builds, or with the one of the page that is there."""
     if make:
-        wasm, compiler, names = make()
-        core.SOURCES.write_text(core.sources_text(wasm, compiler, names))
+        wasm, made_by, names = make()
+        core.SOURCES.write_text(core.sources_text(wasm, made_by, names))
     else:
         wasm = module_of(PAGE.read_text())
     html = page(wasm)
     PAGE.write_text(html)
     print(f"{PAGE.relative_to(ROOT)}: {len(html.encode())} bytes, {len(wasm)} of them WebAssembly")
+
+
+def check_core():
+    """Builds the module anew and compares it, where the tools are those that made it: a sentence, or `Wrong`."""
+    if not core.recorded_tools():
+        raise Wrong("web/SOURCES names no tools: run bin/build-page --core, and commit web/wuzhikar.html and web/SOURCES")
+    if core.lacks():
+        return f"skipped: the core is not built anew ({core.lacks()})"
+    if core.tools() != core.recorded_tools():
+        return f"skipped: the core is not compared with one that is built here (it was made by {core.recorded_tools()}, and here are {core.tools()})"
+    if hashlib.sha256(core.build()[0]).hexdigest() != core.recorded()[0]:
+        raise Wrong("the WebAssembly module is not what its sources give: run bin/build-page --core, and commit web/wuzhikar.html and web/SOURCES")
+    return "the WebAssembly module is what its sources give, byte by byte"
 
 
 def check():

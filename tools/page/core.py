@@ -35,9 +35,9 @@ def checksum(name, root=ROOT):
     return f"{hashlib.sha256(file.read_bytes()).hexdigest() if file.exists() else 'none'}  {name}"
 
 
-def sources_text(wasm, compiler, names):
-    """The text of web/SOURCES: the compiler, the module's checksum, and those of its sources."""
-    module = f"# rustc {compiler}\n# module {hashlib.sha256(wasm).hexdigest()}\n"
+def sources_text(wasm, made_by, names):
+    """The text of web/SOURCES: the tools, the module's checksum, and those of its sources."""
+    module = f"# tools {made_by}\n# module {hashlib.sha256(wasm).hexdigest()}\n"
     return HEAD + module + "".join(f"{checksum(name)}\n" for name in names)
 
 
@@ -52,6 +52,20 @@ def changed():
     """The names of sources that are not as they were when the module was made. A file that is new is named by one of them."""
     names = [line.split("  ", 1)[1] for line in recorded()[1]]
     return [name for name, line in zip(names, recorded()[1]) if checksum(name) != line] if names else ["file"]
+
+
+def recorded_tools():
+    """The tools that made the module, by web/SOURCES."""
+    made_by = re.search(r"^# tools (.*)$", SOURCES.read_text() if SOURCES.exists() else "", re.M)
+    return made_by[1] if made_by else ""
+
+
+def tools():
+    """What a module is built by here: the same tools make the same bytes of the same sources, in any folder."""
+    rustc, _, library = chosen()
+    told = [subprocess.run([tool, "--version"], check=True, stdout=subprocess.PIPE, text=True).stdout.strip() for tool in (rustc, "cargo", "wasm-ld")]
+    crates = [path.name for path in sorted(REGISTRY.glob("arrayvec-*"))] or ["crates.io"]
+    return "; ".join([*told[:1], "library from sources" if library else "library of its own", *told[1:], *crates])
 
 
 def is_stale():
@@ -115,22 +129,40 @@ def sysroot_for(rustc, version, library):
     return kept
 
 
-def build(root=ROOT, target=None):
-    """Builds the module of a copy of the repository: its bytes, the compiler's version, and the files that it was made from."""
+def workspace(root, folder):
+    """Copies what the module is made from into a folder, as one workspace: cargo names crates by their paths from its root, so
+    that symbols, and with them the order of functions, are the same wherever it lies."""
+    for part in ("web/core", *CRATES):
+        shutil.rmtree(folder / part, ignore_errors=True)
+        shutil.copytree(root / part, folder / part, ignore=shutil.ignore_patterns("target", "Cargo.lock"))
+    shutil.copy2(root / "rust/Cargo.toml", folder / "rust/Cargo.toml")
+    (folder / "Cargo.lock").unlink(missing_ok=True)
+    package, profile = (root / "web/core/Cargo.toml").read_text().split("[profile.release]")
+    (folder / "web/core/Cargo.toml").write_text(package.replace("[workspace]\n", ""))
+    (folder / "Cargo.toml").write_text(f'[workspace]\nresolver = "2"\nmembers = ["web/core"]\nexclude = ["rust"]\n\n[profile.release]{profile}')
+    members = ", ".join(f'"{crate.removeprefix("rust/")}"' for crate in CRATES)
+    rust = (root / "rust/Cargo.toml").read_text()
+    (folder / "rust/Cargo.toml").write_text(re.sub(r"^members = .*$", f"members = [{members}]", rust, flags=re.M))
+
+
+def build(root=ROOT, target=None, **more):
+    """Builds the module of a copy of the repository: its bytes, the tools that made it, and the files that it was made from. `more`
+    are variables of cargo."""
     if lacks():
         raise Wrong(lacks())
     rustc, version, library = chosen()
-    remapped = [(root, "."), (REGISTRY, "registry")] + ([(library, "library")] if library else [])
+    target = target or ROOT / "out/page/target"
+    folder = target.parent / f"{target.name}-source"
+    workspace(root, folder)
+    remapped = [(folder, "."), (REGISTRY, "registry")] + ([(library, "library")] if library else [])
     flags = [f"--remap-path-prefix={path}={name}" for path, name in remapped] + ["-Clink-arg=-zstack-size=65536"]
     if library:
         flags.append(f"--sysroot={sysroot_for(rustc, version, library)}")
     words = ["cargo", "build", "-q", "--release", "--target", TARGET]
     if any(REGISTRY.glob("arrayvec-*")):
-        (root / "web/core/Cargo.lock").unlink(missing_ok=True)
-        words += ["--offline", "--config", 'source.crates-io.replace-with="debian"', "--config", f'source.debian.directory="{REGISTRY}"']
-    target = target or ROOT / "out/page/target"
-    environment = {**os.environ, "RUSTC": rustc, "CARGO_TARGET_DIR": str(target), "CARGO_ENCODED_RUSTFLAGS": "\x1f".join(flags)}
+        words += ["--config", str(ROOT / "tools/debian.toml")]
+    environment = {**os.environ, **more, "RUSTC": rustc, "CARGO_TARGET_DIR": str(target), "CARGO_ENCODED_RUSTFLAGS": "\x1f".join(flags)}
     environment[f"CARGO_TARGET_{TARGET.upper().replace('-', '_')}_LINKER"] = "wasm-ld"
-    if subprocess.run(words, cwd=root / "web/core", env=environment).returncode != 0:
+    if subprocess.run(words, cwd=folder, env=environment).returncode != 0:
         raise Wrong("cargo could not build web/core")
-    return (target / TARGET / "release/page_core.wasm").read_bytes(), version, read_files(target, root)
+    return (target / TARGET / "release/page_core.wasm").read_bytes(), tools(), read_files(target, folder)

@@ -19,6 +19,7 @@ const ONE: (usize, usize) = (0, 1);
 
 pub struct Played {
     plays: IntoIter<Play>,
+    leds: u8,
 }
 
 /// What is played.
@@ -43,11 +44,14 @@ impl Played {
         // The header of a page, and the record of the entry.
         plays.events([Event::Nothing, Event::Nothing, Event::In, Event::Cut]);
         plays.address_and_configuration();
+        plays.say("SET_REPORT: Caps Lock, until the host resets the bus");
+        plays.events([Event::Setup([0x21, 9, 1, 2, 0, 0, 2, 0]), Event::Out([1, 2, 0, 0, 0, 0, 0, 0], 2), Event::In]);
+        plays.address_and_configuration();
         plays.press("the key is pressed", &[A]);
         plays.press("the layer key is held", &[LAYER]);
         plays.press("and 1 is pressed", &[LAYER, ONE]);
         plays.events([Event::Cut]);
-        Played { plays: plays.0.into_iter() }
+        Played { plays: plays.0.into_iter(), leds: 0 }
     }
 }
 
@@ -155,5 +159,9 @@ impl Chip for Played {
         println!("endpoint 0 is armed again");
     }
 
-    fn leds(&mut self, _bits: u8) {}
+    fn leds(&mut self, bits: u8) {
+        if std::mem::replace(&mut self.leds, bits) != bits {
+            println!("LEDs: {bits:05b}");
+        }
+    }
 }

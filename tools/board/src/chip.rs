@@ -55,8 +55,9 @@ pub struct Told {
     pub operations: u64,
     /// 0 between two operations of the flash, 1 inside a program, 2 inside an erase.
     pub inside: u64,
-    /// Words that were programmed while they were not blank, or more than twice, and operations outside of the log.
-    pub broken: [u64; 3],
+    /// Words that were programmed while they were not blank, or more than twice, operations outside of the log, and accesses to a
+    /// flash that is busy.
+    pub broken: [u64; 4],
     pub erases: u64,
     pub stack: u64,
     /// The bytes of the log, at the end of the flash: more than its slots take where there is error correction.
@@ -135,13 +136,19 @@ impl Chip {
         }
     }
 
+    /// Waits until the chip sleeps, and nothing is on its way to it.
+    pub fn rests(&mut self) -> Result<()> {
+        while !self.machine.rests()? {}
+        Ok(())
+    }
+
     /// Stops QEMU now, for so many seconds.
     pub fn starve(&self, seconds: u32) -> Result<()> {
         self.machine.stop(seconds)
     }
 
     fn hear_switch(&mut self) -> Result<()> {
-        let mut bytes = [0; 8 * 13];
+        let mut bytes = [0; 8 * 14];
         self.switch.read_exact(&mut bytes)?;
         let number = |at: usize| u64::from_le_bytes(std::array::from_fn(|i| bytes[8 * at + i]));
         self.told = Told {
@@ -150,12 +157,12 @@ impl Chip {
             instructions: number(2),
             operations: number(3),
             inside: number(4),
-            broken: [number(5), number(6), number(7)],
-            erases: number(8),
-            stack: number(9),
-            log: number(10),
-            start: number(11),
-            longest: number(12),
+            broken: [number(5), number(6), number(7), number(8)],
+            erases: number(9),
+            stack: number(10),
+            log: number(11),
+            start: number(12),
+            longest: number(13),
         };
         let mut flash = vec![0; REGION];
         self.switch.read_exact(&mut flash)?;
@@ -254,9 +261,10 @@ impl Chip {
 
     /// What the switch told at the cut: whether the firmware broke a rule of the flash.
     pub fn keeps_its_bounds(&self) -> std::result::Result<(), Lost> {
-        let [not_blank, often, outside] = self.told.broken;
-        if self.told.broken != [0; 3] || self.flash[..self.log()].iter().any(|byte| *byte != BESIDE) {
-            let why = format!("{not_blank} words not blank, {often} more than twice, {outside} operations outside of the log");
+        let [not_blank, often, outside, busy] = self.told.broken;
+        if self.told.broken != [0; 4] || self.flash[..self.log()].iter().any(|byte| *byte != BESIDE) {
+            let programs = format!("{not_blank} words not blank, {often} more than twice");
+            let why = format!("{programs}, {outside} operations outside of the log, {busy} accesses while the flash was busy");
             return Err(Lost::Dead(format!("BROKEN, what was programmed or erased: {why}, or what stands beside the log")));
         }
         Ok(())

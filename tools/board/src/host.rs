@@ -62,9 +62,35 @@ fn out(chip: &mut Chip, packet: &[u8]) -> Answer<bool> {
     Ok(asked(chip, &out_request(packet))?.kind == b'A')
 }
 
+const GET_DEVICE: [u8; 8] = [0x80, 6, 0, 1, 0, 0, 18, 0];
+const SET_FEATURE: [u8; 8] = [0x21, 9, 3, 3, 0, 0, 6, 0];
+
 /// Whether a command was confirmed; if not it was refused.
 pub fn command(chip: &mut Chip, command: Command) -> Answer<bool> {
-    Ok(control(chip, [0x21, 9, 3, 3, 0, 0, 6, 0], &command.packet())?.is_some())
+    match control(chip, SET_FEATURE, &command.packet())? {
+        Some(status) if !status.is_empty() => Err(Lost::Dead(format!("WRONG: {status:02x?} in place of a status packet"))),
+        status => Ok(status.is_some()),
+    }
+}
+
+/// An IN token in place of the data of a write, which the host began in a read: what a controller with buffers holds behind SETUP.
+pub fn behind_setup(chip: &mut Chip) -> Answer<Frame> {
+    chip.ask(&[b"s", &GET_DEVICE[..]].concat())?;
+    chip.ask(&[b"s", &SET_FEATURE[..]].concat())?;
+    chip.ask(b"i")
+}
+
+/// A read that the host gives up for a command, which then is confirmed with the first token behind the chip's work.
+pub fn command_in_a_read(chip: &mut Chip, command: Command) -> Answer<bool> {
+    chip.ask(&[b"s", &GET_DEVICE[..]].concat())?;
+    chip.ask(&[b"s", &SET_FEATURE[..]].concat())?;
+    out(chip, &command.packet())?;
+    chip.rests()?;
+    let frame = chip.ask(b"i")?;
+    if frame.kind == b'N' {
+        return Err(Lost::Dead("LATE: the chip sleeps, and tells the host to wait".to_string()));
+    }
+    Ok(frame.kind == b'D' && frame.bytes.is_empty())
 }
 
 pub fn scan(chip: &mut Chip, keys: &[u8]) -> Answer<Frame> {
@@ -143,7 +169,7 @@ pub fn keymap(chip: &mut Chip) -> Answer<Keymap> {
 
 /// An entry as a driver on a host reads it: selected by one transfer, read by another.
 pub fn entry(chip: &mut Chip, layer: u8, key: u8) -> Answer<Option<u16>> {
-    control(chip, [0x21, 9, 3, 3, 0, 0, 6, 0], &[3, 0, layer, key, 0, 0])?;
+    control(chip, SET_FEATURE, &[3, 0, layer, key, 0, 0])?;
     let read = control(chip, [0xa1, 1, 3, 3, 0, 0, 6, 0], &[])?;
     Ok(match read.as_deref() {
         Some([3, 0, l, k, low, high]) if (*l, *k) == (layer, key) => Some(u16::from_le_bytes([*low, *high])),

@@ -3,6 +3,7 @@
 //!
 //! - `session`: a session with one cut, told line by line
 //! - `starved`: a session while QEMU has no processor for some seconds, which is no silence of the chip
+//! - `armed`: what endpoint 0 of a firmware with buffers holds behind a SETUP packet: nothing
 //! - `instructions STRIDE`: a cut at each so many instructions of a session with one command; `FROM TO` behind it: of these alone
 //! - `operations STRIDE`: a cut in each so many operations of a compaction with an erase, each torn in five ways; all of the erase's;
 //!   `FROM TO` in place of the stride: in each of these
@@ -11,7 +12,7 @@
 //! - `layout CUTS SEED`: the same of a firmware whose default codes are those of rust/tests/src/other.rs
 //! - `lengths`: the instructions of the one session, and the operations of the other
 //! - `measure`: the most instructions that calls take, a row each, and the deepest stack
-//! - `host WORDS ..`: the chip in place of the keyboard of examples/real_host, with the words of its program
+//! - `host WORDS ..`: the chip in place of the keyboard of tests/real_host, with the words of its program
 
 mod chip;
 mod ecc;
@@ -63,6 +64,7 @@ fn main() -> Result<ExitCode, Box<dyn std::error::Error>> {
         ("session", []) => session::run(&shop),
         ("measure", []) => measure::run(&shop),
         ("starved", []) => session::starved(&shop),
+        ("armed", []) => session::armed(&shop),
         ("lengths", []) => every::lengths(&shop),
         ("instructions", [stride]) => every::instructions(&shop, *stride),
         ("instructions", [stride, from, to]) => every::instructions_of(&shop, *stride, *from, *to),

@@ -1,5 +1,5 @@
 // SPDX-License-Identifier: MIT OR Apache-2.0
-//! The chip on the bus of a real host, by the program of examples/real_host.
+//! The chip on the bus of a real host, by the program of tests/real_host.
 
 use crate::Shop;
 use crate::chip::{Chip, Frame, LOG, Lost, Order};

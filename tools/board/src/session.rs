@@ -30,12 +30,29 @@ pub fn run(shop: &Shop) -> Answer<()> {
     let set = |code| Command { operation: 1, layer: 0, key: 0, code };
     println!("key 0 is to be a b; stored: {}", host::command(&mut chip, set(5))?);
     println!("the flash controller is left open: {}", chip.flash_is_open()?);
+    println!("key 0 is to be a d, in a read that is given up; stored: {}", host::command_in_a_read(&mut chip, set(7))?);
+    println!("key 0 is to be a b; stored: {}", host::command(&mut chip, set(5))?);
     chip.order(Order { operation: 1, undone: 128, ..Order::NEVER })?;
     match host::command(&mut chip, set(6)) {
         Err(Lost::Cut) => println!("key 0 is to be a c; the power goes inside the first word of it, which is torn"),
         other => return Err(Lost::Dead(format!("no cut, {other:?}"))),
     }
+    chip.keeps_its_bounds()?;
     power(&mut chip, Order::NEVER)
+}
+
+/// Behind a SETUP packet the buffers of endpoint 0 are empty.
+pub fn armed(shop: &Shop) -> Answer<()> {
+    let mut chip = shop.chip()?;
+    chip.power(Order::NEVER)?;
+    host::start(&mut chip)?;
+    host::enumerate(&mut chip)?;
+    let frame = host::behind_setup(&mut chip)?;
+    if frame.kind != b'N' {
+        return Err(Lost::Dead(format!("ARMED: behind a SETUP packet endpoint 0 holds {frame:02x?}")));
+    }
+    println!("endpoint 0 is empty behind a SETUP packet");
+    Ok(())
 }
 
 /// A host that has no processor for QEMU is no silence of the chip: QEMU is stopped while an answer is owed.

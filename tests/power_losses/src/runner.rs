@@ -1,0 +1,94 @@
+// SPDX-License-Identifier: MIT OR Apache-2.0
+//! A life of something that is kept in flash: a session after each loss of power.
+
+use std::fmt;
+
+use crate::chip::Cells;
+use crate::flashes::Adapter;
+use crate::power::Power;
+use crate::random::Random;
+use crate::subjects::Subject;
+
+/// What a life has seen.
+#[derive(Clone, Copy, Debug, Default, PartialEq, Eq)]
+pub struct Tally {
+    /// Losses of power, each inside an operation.
+    pub cuts: u64,
+    /// Those of them that came into an erase.
+    pub cut_erases: u64,
+    /// Operations that were torn while the power stayed on.
+    pub faults: u64,
+    /// Changes that were confirmed.
+    pub stored: u64,
+    /// Changes that were refused because of a fault.
+    pub failed: u64,
+}
+
+impl Tally {
+    pub fn add(&mut self, other: Tally) {
+        self.cuts += other.cuts;
+        self.cut_erases += other.cut_erases;
+        self.faults += other.faults;
+        self.stored += other.stored;
+        self.failed += other.failed;
+    }
+}
+
+impl fmt::Display for Tally {
+    fn fmt(&self, f: &mut fmt::Formatter<'_>) -> fmt::Result {
+        let Tally { cuts, cut_erases, faults, stored, failed } = self;
+        write!(f, "{cuts} power losses, {cut_erases} of them in erases; {faults} faults; ")?;
+        write!(f, "{stored} changes stored, {failed} refused because of a fault")
+    }
+}
+
+/// What should not have been.
+#[derive(Clone, Debug, PartialEq, Eq)]
+pub enum Broken {
+    /// What a start finds is neither what was confirmed nor that with the change that the loss of power came into.
+    Lost(String),
+    /// What is there between two losses of power is not what was confirmed.
+    Wrong(String),
+    /// A change was refused though no operation had failed.
+    Refused(String),
+    /// The adapter asked something of its driver that it should not.
+    Misuse(&'static str),
+}
+
+impl fmt::Display for Broken {
+    fn fmt(&self, f: &mut fmt::Formatter<'_>) -> fmt::Result {
+        match self {
+            Broken::Lost(what) => write!(f, "lost: {what}"),
+            Broken::Wrong(what) => write!(f, "wrong: {what}"),
+            Broken::Refused(what) => write!(f, "refused without a fault: {what}"),
+            Broken::Misuse(how) => write!(f, "the driver was asked for {how}"),
+        }
+    }
+}
+
+/// What a session is made of: random numbers, the power, and the tally.
+pub struct Stage {
+    pub random: Random,
+    pub power: Power,
+    pub tally: Tally,
+}
+
+/// A life with `cuts` losses of power, and a start behind the last one; or what it finds broken.
+pub fn life<S: Subject, A: Adapter>(seed: u64, cuts: u64, cells: Cells) -> Result<Tally, Broken> {
+    let mut random = Random::of(seed);
+    let power = Power::with_faults([None, Some(32), Some(1000)][random.below(3)]);
+    let pages = 2 + random.below(7);
+    let mut chip = A::blank(pages, cells, power.clone(), random.next());
+    let mut subject = S::new(&mut random);
+    let mut stage = Stage { random, power, tally: Tally::default() };
+    for _ in 0..=cuts {
+        // Most losses come soon, some so late that a compaction comes to its end.
+        let bound = [4, 30, 200, 800][stage.random.below(4)];
+        stage.power.on(stage.random.below(bound) as u64);
+        chip = subject.session(A::start(chip, pages), &mut stage)?.stop();
+        if let Some(how) = stage.power.misuse() {
+            return Err(Broken::Misuse(how));
+        }
+    }
+    Ok(Tally { cuts, cut_erases: stage.power.cut_erases(), faults: stage.power.faults(), ..stage.tally })
+}
