@@ -199,12 +199,16 @@ _kbsim() {
             return 0
             ;;
         kbsim__read)
-            opts="-h --names --json --changes --raw --live --lenient --kind --from --help <DESCRIPTOR> [REPORTS]"
+            opts="-h --names --json --changes --raw --live --lenient --address --kind --from --help <DESCRIPTOR> [REPORTS]"
             if [[ ${cur} == -* || ${COMP_CWORD} -eq 2 ]] ; then
                 COMPREPLY=( $(compgen -W "${opts}" -- "${cur}") )
                 return 0
             fi
             case "${prev}" in
+                --address)
+                    COMPREPLY=($(compgen -f "${cur}"))
+                    return 0
+                    ;;
                 --kind)
                     COMPREPLY=($(compgen -W "input output feature" -- "${cur}"))
                     return 0

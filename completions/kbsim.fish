@@ -13,6 +13,7 @@ complete -c kbsim -n "__fish_seen_subcommand_from parse" -l details -d 'Prints a
 complete -c kbsim -n "__fish_seen_subcommand_from parse" -l json -d 'Prints a JSON object'
 complete -c kbsim -n "__fish_seen_subcommand_from parse" -l lenient -d 'Reads on past faults of the descriptor that Linux passes over, with a line for each'
 complete -c kbsim -n "__fish_seen_subcommand_from parse" -s h -l help -d 'Print help information (use `--help` for more detail)'
+complete -c kbsim -n "__fish_seen_subcommand_from read" -l address -d 'The packets of usbmon that are read, as BUS:DEVICE or BUS:DEVICE:ENDPOINT' -r
 complete -c kbsim -n "__fish_seen_subcommand_from read" -l kind -d 'The kind of the reports' -r -f -a "{input	,output	,feature	}"
 complete -c kbsim -n "__fish_seen_subcommand_from read" -l from -d 'How the descriptor\'s text says the bytes; it is told by what it looks like where nothing is said' -r -f -a "{hex	,c	,rust	,loose	,xxd	,hexdump	,rdesc	,usbhid-dump	,hid-recorder	,bytes	,auto	}"
 complete -c kbsim -n "__fish_seen_subcommand_from read" -l names -d 'Usages by their names'

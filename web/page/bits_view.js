@@ -1,6 +1,7 @@
 // A report as a picture of its bits: a row for each byte, a colour for each field, the usage of each place.
 
 import { counted } from "./bytes.js";
+import { around, measure } from "./collections.js";
 import { h, set } from "./dom.js";
 import { KINDS } from "./reader.js";
 import { usageName } from "./usages.js";
@@ -16,6 +17,17 @@ export function reportsOf(descriptor) {
         reports.get(key).fields.push(field);
     }
     return [...reports.values()];
+}
+
+/** Reports by the outermost collection of their first field, in order. @returns {Map<string, any[]>} */
+export function grouped(descriptor, reports) {
+    const groups = new Map();
+    for (const report of reports) {
+        const name = around(descriptor, report.fields[0])[0] ?? "outside of collections";
+        if (!groups.has(name)) groups.set(name, []);
+        groups.get(name).push(report);
+    }
+    return groups;
 }
 
 /** What a place of a field is called. */
@@ -49,9 +61,25 @@ function usagesIn(descriptor, field) {
     return last && last !== at(0) ? `${usageName(at(0))} to ${usageName(last)}` : usageName(at(0));
 }
 
+const RELATIVE = 4, NULL_STATE = 64;
+
 /** A line about a field. */
-export const fieldLine = (descriptor, field) =>
-    `bit ${field.bit}: ${field.count} × ${counted(field.size, "bit")}, ${field.array ? "array" : "variable"}, ${field.min} to ${field.max}: ${usagesIn(descriptor, field)}`;
+function fieldLine(descriptor, field) {
+    const detail = descriptor.detail(field.number);
+    const kind = `${field.array ? "array" : "variable"}${detail.flags & RELATIVE ? ", relative" : ""}`;
+    return `bit ${field.bit}: ${field.count} × ${counted(field.size, "bit")}, ${kind}, ${field.min} to ${field.max}${detail.flags & NULL_STATE ? " or null" : ""}${measure(detail)}: ${usagesIn(descriptor, field)}`;
+}
+
+/** The lines of fields, under the collections that they are in: each with its path within the one that the report stands under. */
+function fieldLines(descriptor, fields) {
+    const [outermost] = around(descriptor, fields[0]), inside = ({ number }) => descriptor.detail(number).inside;
+    return fields.flatMap((field, n) => {
+        const line = h("li", { class: `f${n % COLOURS}` }, fieldLine(descriptor, field)), path = around(descriptor, field);
+        if (n ? inside(field) === inside(fields[n - 1]) : path.length < 2) return [line];
+        const within = path.length > 1 && path[0] === outermost ? path.slice(1) : path;
+        return [h("li", { class: "inside" }, within.join(" › ") || "outside of collections"), line];
+    });
+}
 
 /**
  * The picture of a report.
@@ -82,7 +110,7 @@ export function reportPicture(descriptor, report) {
         at = Math.min(bits.length - 1, Math.max(0, at + step));
         tell(at);
     });
-    const list = h("ol", { class: "fields" }, ...report.fields.map((field, n) => h("li", { class: `f${n % COLOURS}` }, fieldLine(descriptor, field))));
+    const list = h("ol", { class: "fields" }, ...fieldLines(descriptor, report.fields));
     const more = whole > length ? ` The first ${length} are drawn.` : "";
     return h("section", { class: "card report" }, h("h3", {}, name, h("span", { class: "dim" }, ` ${counted(whole + Number(descriptor.usesIds), "byte")}${descriptor.usesIds ? ", the ID counted" : ""}.${more}`)), picture, said, list);
 }

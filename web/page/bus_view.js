@@ -31,33 +31,65 @@ function lineOf(what, bytes, said) {
     }
 }
 
+/** The lines of a keyboard: those that are to be shown yet, those that are, and the last one of each report. */
+class Log {
+    constructor() {
+        this.lines = [];
+        this.last = null;
+        /** @type {Element[]} */
+        this.shown = [];
+        /** @type {Map<number, any>} */
+        this.polls = new Map();
+        this.add("power", "on", "", "");
+    }
+    /**
+     * Adds a line, or counts it once more: an answer that says "not yet", or a report of so many bytes, which are as many as no other
+     * report has, that says what the last one of them did.
+     */
+    add(way, what, said, kind, report = 0) {
+        const { last } = this;
+        const same = (one) => one && one.way === way && one.what === what && one.said === said;
+        const older = report ? this.polls.get(report) : (said === "nak" || said === "working") && last;
+        if (same(older)) {
+            older.count++;
+            if (older.element) older.element.lastChild.textContent = saidOf(older);
+            return;
+        }
+        this.lines.push((this.last = { way, what, said, kind, count: 1, element: null }));
+        if (report) this.polls.set(report, this.last);
+        else if (way !== "flash") this.polls.clear();
+    }
+}
+const saidOf = (line) => (line.count > 1 ? `${line.count} × ${line.said}` : line.said);
+const made = (line) => (line.element = h("div", { role: "listitem", class: line.kind },
+    h("span", { class: "way" }, line.way), h("span", { class: "what", title: line.what }, line.what), h("span", { class: "said", title: line.said }, saidOf(line))));
+
 /** @param {import("./model.js").Model} model */
 export function busView(model) {
     const { session } = model, root = $("log");
-    let lines = [], last = null;
-    const add = (way, what, said, kind) => {
-        if (last && last.way === way && last.what === what && last.said === said && (said === "nak" || said === "working")) last.count++;
-        else lines.push((last = { way, what, said, kind, count: 1, element: null }));
-        model.changed();
+    /** @type {WeakMap<import("./bench.js").Bench, Log>} */
+    const logs = new WeakMap();
+    const logOf = (bench) => {
+        if (!logs.has(bench)) logs.set(bench, new Log());
+        return logs.get(bench);
     };
-    session.seers.push((what, bytes, said) => add(...lineOf(what, bytes, said)));
-    session.starters.push(() => {
-        lines = [];
-        last = null;
-        root.replaceChildren();
-        add("power", "on", "", "");
+    let log = logOf(session.bench);
+    session.seers.push((what, bytes, said) => {
+        log.add(...lineOf(what, bytes, said), what === "poll" ? bytes.length : 0);
+        model.changed();
     });
-    add("power", "on", "", "");
-
-    const saidOf = (line) => (line.count > 1 ? `${line.said} × ${line.count}` : line.said);
-    const made = (line) => (line.element = h("div", { role: "listitem", class: line.kind },
-        h("span", { class: "way" }, line.way), h("span", { class: "what", title: line.what }, line.what), h("span", { class: "said", title: line.said }, saidOf(line))));
+    session.starters.push(() => {
+        log.shown = [...root.children];
+        log = logOf(session.bench);
+        root.replaceChildren(...log.shown);
+        root.scrollTop = root.scrollHeight;
+        model.changed();
+    });
     model.on(() => {
-        if (last?.element) last.element.lastChild.textContent = saidOf(last);
-        if (!lines.length) return;
+        if (!log.lines.length) return;
         const atEnd = root.scrollHeight - root.scrollTop - root.clientHeight < 40;
-        root.append(...lines.slice(-SHOWN).map(made));
-        lines = [];
+        root.append(...log.lines.slice(-SHOWN).map(made));
+        log.lines = [];
         while (root.childElementCount > SHOWN) root.firstChild.remove();
         if (atEnd) root.scrollTop = root.scrollHeight;
     });

@@ -4,7 +4,7 @@ import { Refused, bytesHex, counted, hex } from "./bytes.js";
 import { mediaKeys } from "./built.js";
 import { Device } from "./device.js";
 import { $, chooser, h, set } from "./dom.js";
-import { reportPicture, reportsOf } from "./bits_view.js";
+import { grouped, reportPicture, reportsOf } from "./bits_view.js";
 import { itemLines } from "./items.js";
 import { bytesOfFile, bytesOfReport, bytesOfText } from "./paste.js";
 import { Descriptor, FAULTS, bootDescriptor, itemsOf } from "./reader.js";
@@ -31,10 +31,22 @@ function valuesOf(descriptor, report) {
     });
 }
 
+/** The first input report with nothing in it, in hex; empty where there is none. */
+function blankReport(descriptor, reports) {
+    const first = reports.find(({ kind }) => kind === 1);
+    if (!first) return "";
+    const bytes = new Uint8Array(descriptor.reportLength(1, first.id));
+    if (descriptor.usesIds) bytes[0] = first.id;
+    return bytesHex(bytes).replace(/(..)(?=.)/g, "$1 ");
+}
+
 /** The view of a report descriptor. */
 export function describeView() {
     /** @type {Descriptor | null} */
     let descriptor = null;
+    /** The report that the page put there. */
+    let offered = "";
+    const offer = (report) => ($("report").value = offered = report);
     const clear = (text) => {
         descriptor = null;
         $("items").replaceChildren();
@@ -58,7 +70,13 @@ export function describeView() {
         $("items").replaceChildren(...lines.map((line) => itemRow(line, fault)));
         descriptor = fault ? null : whole;
         const reports = fault ? [] : reportsOf(whole);
-        $("reports").replaceChildren(h("div", { class: "columns" }, ...reports.slice(0, MOST_REPORTS).map((report) => reportPicture(whole, report))));
+        const groups = [...grouped(whole, reports.slice(0, MOST_REPORTS))];
+        $("reports").replaceChildren(h("div", { class: "columns" }, ...groups.flatMap(([name, of]) => of.map((report, n) => {
+            const picture = reportPicture(whole, report);
+            return n ? picture : h("div", { class: "first" }, h("h2", {}, name), picture);
+        }))));
+        // A report that nobody wrote is one of the right size.
+        if ($("report").value === offered) offer(blankReport(whole, reports));
         const shown = items.length > MOST_ITEMS ? ` The first ${MOST_ITEMS} are listed.` : "";
         const text = fault ? `Fault ${fault.number} at byte ${fault.offset} (${hex(fault.offset, 3)}h): ${FAULTS[fault.number]}.` : `${counted(bytes.length, "byte")}, ${counted(items.length, "item")}, ${counted(whole.fields.length, "field")}, ${counted(reports.length, "report")}. No fault.${shown}`;
         set($("described"), { textContent: text, className: `said ${fault ? "bad" : "good"}` });
@@ -93,8 +111,10 @@ export function describeView() {
     }
     const put = (bytes, report) => {
         $("descriptor").value = rows(bytes);
-        $("report").value = report;
+        offer(report);
         show(bytes);
+        if (report) offer(report);
+        read();
     };
     $("describe").addEventListener("click", describe);
     $("descriptor").addEventListener("input", describe);

@@ -1,6 +1,7 @@
 // Items of a report descriptor in words (HID 1.11, section 6.2.2).
 
 import { hex } from "./bytes.js";
+import { kindName } from "./collections.js";
 import { pageName, usageName } from "./usages.js";
 
 /** The numbers of tags, as web/core/src/reader.rs gives them. */
@@ -8,12 +9,11 @@ export const TAGS = {
     1: "Input", 2: "Output", 3: "Feature", 4: "Collection", 5: "End Collection", 11: "Usage Page", 12: "Logical Minimum", 13: "Logical Maximum", 14: "Report Size",
     15: "Report ID", 16: "Report Count", 17: "Push", 18: "Pop", 21: "Usage", 22: "Usage Minimum", 23: "Usage Maximum", 24: "Delimiter",
 };
-/** Tags that the reader passes over, by the prefix without its size. */
+/** Tags of what stands beside a field, by the prefix without its size. */
 const OTHERS = {
     0x34: "Physical Minimum", 0x44: "Physical Maximum", 0x54: "Unit Exponent", 0x64: "Unit", 0x38: "Designator Index", 0x48: "Designator Minimum",
     0x58: "Designator Maximum", 0x78: "String Index", 0x88: "String Minimum", 0x98: "String Maximum",
 };
-const COLLECTIONS = ["Physical", "Application", "Logical", "Report", "Named Array", "Usage Switch", "Usage Modifier"];
 const FLAGS = [["Data", "Constant"], ["Array", "Variable"], ["Absolute", "Relative"], ["", "Wrap"], ["", "Nonlinear"], ["", "No Preferred"], ["", "Null State"], ["", "Volatile"], ["", "Buffered Bytes"]];
 
 /** The data of a short item, without and with its sign. */
@@ -44,12 +44,19 @@ export function itemLines(items) {
     });
 }
 
+/** The data of an item beside a field: the exponent is a digit of four bits with its sign (HID 1.11, section 6.2.2.7). */
+function besides(prefix, value, signed) {
+    if (prefix === 0x64) return `${hex(value, 8)}h`;
+    return String(prefix === 0x54 && value < 16 ? (value ^ 8) - 8 : signed);
+}
+
 function says({ tag, bytes }, value, signed, page) {
     if (tag >= 1 && tag <= 3) return FLAGS.map(([no, yes], bit) => ((value >> bit) & 1 ? yes : no)).filter((word) => word).join(", ");
-    if (tag === 4) return COLLECTIONS[value] ?? (value >= 0x80 ? "vendor-defined" : "reserved");
+    if (tag === 4) return kindName(value);
     if (tag === 11) return pageName(value);
     if (tag === 12 || tag === 13) return String(signed);
     if (tag >= 14 && tag <= 16) return String(value);
     if (tag >= 21 && tag <= 23) return usageName(bytes.length > 3 ? value : page * 0x10000 + value);
-    return tag === 0 ? `passed over${bytes.length > 1 && bytes[0] !== 0xfe ? `: ${signed}` : ""}` : bytes.length > 1 ? `${hex(value, 2)}h` : "";
+    if (tag === 0) return OTHERS[bytes[0] & 0xfc] ? besides(bytes[0] & 0xfc, value, signed) : "passed over";
+    return bytes.length > 1 ? `${hex(value, 2)}h` : "";
 }

@@ -21,6 +21,8 @@ const OTHER = "another program selected an entry meanwhile; read again";
 const REFUSES = "the keyboard refused it, and USB does not tell why: its flash failed, is worn or damaged, or the cable";
 /** A host gives a transfer up after 5 s, and a browser tells that as it tells a refusal. */
 const PATIENCE = 4900;
+/** The first pause behind a refusal, and the longest one. */
+const PAUSES = [50, 500];
 const UNANSWERED = "the keyboard did not answer in time";
 const UNCONFIRMED = "the keyboard did not confirm it in time: each entry is the old one or the new one. Read all to see which";
 
@@ -58,7 +60,11 @@ export class SimKeyboard {
     /** Tries a packet until it is taken, on a bench that may be replaced meanwhile. */
     async again(bench, act) {
         for (;;) {
-            if (bench !== this.session.bench) throw new Refused(GONE);
+            if (!this.session.has(bench)) throw new Refused(GONE);
+            if (bench !== this.session.bench) {
+                await this.session.tick();
+                continue;
+            }
             const answer = this.answered(act());
             if (answer.kind !== "nak") return answer;
             await this.session.tick();
@@ -134,8 +140,17 @@ export class HidKeyboard {
             throw new Refused(performance.now() - begun < PATIENCE ? REFUSES : late);
         }
     }
+    /** Sends a report. A refusal may only say "later" (SECURITY.md, pace), so it is sent again, as long as a host waits for a transfer. */
     async send(report, late = UNANSWERED) {
-        await this.transfer(() => this.device.sendFeatureReport(REPORT, Uint8Array.from(report)), late);
+        const begun = performance.now();
+        for (let [pause, longest] = PAUSES; ; pause = Math.min(2 * pause, longest)) {
+            try {
+                return await this.transfer(() => this.device.sendFeatureReport(REPORT, Uint8Array.from(report)), late);
+            } catch (refused) {
+                if (refused.message !== REFUSES || performance.now() - begun >= PATIENCE) throw refused;
+            }
+            await new Promise((done) => setTimeout(done, pause));
+        }
     }
     /** Sends a command; the browser's call ends when the keyboard confirmed it. @returns {Promise<void>} */
     command(operation, layer, key, code) {

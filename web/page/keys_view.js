@@ -9,6 +9,8 @@ import { PICTURES } from "./pictures.js";
 import { Refused } from "./bytes.js";
 
 const GAP = 0.06;
+/** The widest picture, in keys, that a phone shows as a whole: its keys are higher then. */
+const WIDEST = 15;
 
 /** How small a legend stands on a key of this width, so that no word of it is broken. */
 function sizesOf(text, wide) {
@@ -59,7 +61,10 @@ export function keysView(model) {
         const all = keys.flatMap(corners);
         const width = Math.max(...all.map(([x]) => x)), height = Math.max(...all.map(([, y]) => y));
         const field = h("div", { class: "field" });
-        Object.assign(field.style, { aspectRatio: `${width} / ${height}`, minWidth: `${Math.min(width * 40, 720)}px` });
+        const fits = width <= WIDEST && !keys.some(({ turn }) => turn);
+        field.classList.toggle("fits", fits);
+        field.style.setProperty("--shape", String(width / height));
+        field.style.minWidth = fits ? "" : `${Math.min(width * 40, 720)}px`;
         field.append(...keys.map(({ key, x, y, w, h: tall, turn }) => {
             const button = h("button", { type: "button", "data-key": key, "data-wide": w, onpointerdown: (event) => press(event, key), onclick: (event) => click(event, key) });
             const part = (number, of) => `${((number / of) * 100).toFixed(4)}%`;

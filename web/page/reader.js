@@ -90,6 +90,18 @@ export class Descriptor {
         const [bit, count, min, max] = [4, 12, 20, 28].map((at) => Number(view.getBigInt64(at, true)));
         return { number, kind, id, array: array === 1, size, bit, count, min, max };
     }
+    /** What is declared beside a field: flags, the collection that it is in or -1, its unit with its exponent, its physical extents. */
+    detail(number) {
+        const length = this.instance.calls.detail(number), view = this.instance.view(length);
+        const [flags, unit, inside] = [view.getUint32(0, true), view.getUint32(4, true), view.getInt32(8, true)];
+        const [exponent, min, max] = [12, 20, 28].map((at) => Number(view.getBigInt64(at, true)));
+        return { flags, unit, inside, exponent, min, max, name: new TextDecoder().decode(this.instance.bytes(length).subarray(36)) };
+    }
+    /** A collection: its type, its usage or null, and the one that it is in or -1. */
+    collection(number) {
+        const view = this.instance.view(this.instance.calls.collection(number));
+        return { kind: view.getUint32(0, true), usage: view.getUint8(12) ? view.getUint32(4, true) : null, outer: view.getInt32(8, true) };
+    }
     /** The usage of a place of a field, or a usage of an array's list: 32 bits, or 0. */
     usage(field, place) {
         return this.instance.calls.usage(field, place) >>> 0;

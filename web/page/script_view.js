@@ -24,7 +24,7 @@ export function scriptView(model) {
         let said = "";
         try {
             script.lines = readScript(area.value, session.bench.device.pages());
-            said = `${counted(script.lines.length, "line")}, on ${slots ? `the image ${$("examples").value}` : "a blank flash"}`;
+            said = `${counted(script.lines.length, "line")}, on a keyboard of its own with ${slots ? `the image ${$("examples").value}` : "a blank flash"}`;
         } catch (fault) {
             said = /** @type {Error} */ (fault).message;
         }
@@ -82,18 +82,19 @@ export function scriptView(model) {
         draw();
     });
     return {
-        /** The script is shown: the keyboard stands still but for its lines. */
+        /** The script is shown, with a keyboard of its own, which stands still but for its lines. */
         shown() {
+            if (session.paused) return;
             session.paused = true;
-            if (!script.lines.length) example();
-            else draw();
+            session.swap();
+            if (area.value) draw();
+            else example();
         },
-        /** It is left: the clock runs again, with a computer that knows the keyboard. */
+        /** It is left: the keyboard that was played with is there again, and its clock runs. */
         left() {
             if (!session.paused) return;
             session.paused = false;
-            if (!session.bench.host.kept) session.bench.enumerate();
-            script = { at: 0, lines: [], printed: [] };
+            session.swap();
         },
     };
 }

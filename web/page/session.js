@@ -27,8 +27,22 @@ export class Session {
         this.paused = false;
         /** The mask of the cut that waits for the next write, and in which of its units. @type {[Uint8Array, number] | null} */
         this.armed = null;
+        /** The keyboard that is set aside: that of scripts, or the one that is played with. @type {{bench: Bench, ledger: Ledger, armed: [Uint8Array, number] | null} | null} */
+        this.aside = null;
         this.ticks = 0;
         this.start(2);
+    }
+    /** Takes the other keyboard: each goes on where it was. */
+    swap() {
+        const { bench, ledger, armed, aside } = this;
+        this.aside = { bench, ledger, armed };
+        if (!aside) return this.start(2);
+        Object.assign(this, aside);
+        for (const started of this.starters) started();
+    }
+    /** Whether a keyboard is there, or was set aside. @param {Bench} bench */
+    has(bench) {
+        return bench === this.bench || bench === this.aside?.bench;
     }
     /**
      * Starts anew on a flash: so many blank pages, or an image.

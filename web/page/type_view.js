@@ -34,8 +34,15 @@ export function takesKeys(model, element) {
 /** @param {import("./model.js").Model} model */
 export function typeView(model) {
     const { session } = model;
+    /** What the computer of each keyboard typed. @type {WeakMap<import("./bench.js").Bench, Typing>} */
+    const typings = new WeakMap();
     let typing = new Typing();
-    session.starters.push(() => (typing = new Typing()));
+    const start = () => {
+        typing = typings.get(session.bench) ?? new Typing();
+        typings.set(session.bench, typing);
+    };
+    session.starters.push(start);
+    start();
     session.seers.push((what, report, read) => {
         if (what === "cut" || what === "reset") typing.before.clear();
         if (what !== "poll" || read === null) return;

@@ -9,6 +9,8 @@ from support import alone
 
 FOLDER = pathlib.Path(__file__).resolve().parent / "broken"
 KEPT = core.ROOT / "out/page/broken"
+# They need not be small.
+QUICKLY = {f"CARGO_PROFILE_RELEASE_{name}": value for name, value in {"LTO": "off", "OPT_LEVEL": "1", "CODEGEN_UNITS": "16"}.items()}
 
 
 def edited(text, edit):
@@ -44,4 +46,4 @@ def build(edit, kept):
         shutil.copytree(core.ROOT / part, root / part, ignore=shutil.ignore_patterns("target"))
     file = root / "web/core" / edit["file"]
     file.write_text(edited(file.read_text(), edit))
-    kept.write_bytes(core.build(root=root, target=KEPT / "target")[0])
+    kept.write_bytes(core.build(root=root, target=KEPT / "target", **QUICKLY)[0])

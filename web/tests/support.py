@@ -58,7 +58,10 @@ def end():
 
 @functools.cache
 def module():
-    """The WebAssembly module of the committed page."""
+    """The WebAssembly module of the committed page. Other tools than those that made it don't give its bytes: then one that they build."""
+    if not core.lacks() and core.tools() != core.recorded_tools():
+        with alone():
+            return core.build()[0]
     return compose.module_of(compose.PAGE.read_text())
 
 

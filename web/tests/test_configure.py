@@ -86,7 +86,44 @@ class OnUsb(Configured):
         self.b.js("played.device.mask = null")
         for layer, key, code, why in ((4, 0, 5, "BadLayer (8)"), (0, 96, 5, "BadKey (9)"), (0, 0, 3, "BadCode (10)")):
             self.assertIn(why, self.b.js(f"page.model.keyboard.command(1, {layer}, {key}, {code}).then(() => 'taken', (error) => error.message)"))
-        self.assertEqual(self.b.js(self.sent(1)), 1)
+        self.assertIn(self.b.js(self.sent(1)), range(8, 16), "a refusal may only say later: it is sent again, for five seconds")
+
+    def test_a_keyboard_with_a_pace_is_tried_again(self):
+        """Behind a stack that keeps endpoint 0 a command that comes too soon is a stall."""
+        self.connect()
+        self.connected()
+        self.b.js("""(() => {
+            const { device } = played, send = device.sendFeatureReport;
+            let next = 0;
+            device.sendFeatureReport = async function (id, data) {
+                if (data[0] > 0 && performance.now() < next) throw new DOMException("Failed to write the feature report.", "NotAllowedError");
+                await send.call(this, id, data);
+                if (data[0] > 0) next = performance.now() + 300;
+            };
+        })()""")
+        self.load(keymap_file([(0, key, 0x4001 + key) for key in range(5)]))
+        self.good("keymap.json is loaded: 5 entries were changed, and each was confirmed.")
+
+    def test_one_transfer_after_the_other(self):
+        """Commands and reads that are asked for at once: on USB no transfer begins before the one before is over."""
+        asks = "[[one.command(1, 0, 0, 5), one.read(0, 0), one.command(1, 0, 1, 6), one.read(0, 1), one.read(3, 0), one.command(2, 0, 0, 0), one.read(0, 1)]]"
+        told = "Promise.all(asks[0].map((ask) => ask.then((code) => code ?? 'stored', (error) => error.message)))"
+        wanted = ["stored", 5, "stored", 6, 1, "stored", 5]
+        self.assertEqual(self.b.js(f"(() => {{ const one = page.model.simulated, asks = {asks}; return {told}; }})()"), wanted)
+        self.connect("""
+            let busy = 0;
+            device.most = 0;
+            for (const name of ["sendFeatureReport", "receiveFeatureReport"]) {
+                const call = device[name];
+                device[name] = async function (...given) {
+                    this.most = Math.max(this.most, ++busy);
+                    await new Promise((done) => setTimeout(done));
+                    try { return await call.apply(this, given); } finally { busy--; }
+                };
+            }""")
+        self.connected()
+        self.assertEqual(self.b.js(f"(() => {{ const one = page.model.keyboard, asks = {asks}; return {told}; }})()"), wanted)
+        self.assertEqual(self.b.js("played.device.most"), 1)
 
     def test_a_host_that_gave_up_is_no_refusal(self):
         """A host waits 5 s for a transfer. The page's clock goes on by as much."""
@@ -106,7 +143,8 @@ class OnUsb(Configured):
     def test_answers_that_are_none(self):
         """A device that is none of this kind: its answers are looked at before they are shown or saved."""
         for answer, why in (("3, 0, 0, 0, 0xff, 0xff", "the keyboard answered FFFFh, which is no code"), ("3, 0, 0, 0, 2, 0", "the keyboard answered 0002h, which is no code"),
-                            ("3, 1, 0, 0, 4, 0", "another program selected an entry meanwhile; read again"), ("3", "another program selected an entry meanwhile; read again")):
+                            ("3, 1, 0, 0, 4, 0", "another program selected an entry meanwhile; read again"), ("3, 0, 1, 0, 4, 0", "another program selected an entry meanwhile; read again"),
+                            ("3, 0, 0, 1, 4, 0", "another program selected an entry meanwhile; read again"), ("3", "another program selected an entry meanwhile; read again")):
             self.connect(f"device.receiveFeatureReport = async () => new DataView(Uint8Array.of({answer}).buffer);")
             self.bad(f"Reading: {why}.")
             self.shows("#progress-text", "Not all entries were read")
@@ -182,6 +220,18 @@ class OnUsb(Configured):
 class Simulated(Configured):
     """The simulated keyboard, where there is no device."""
 
+    def test_an_answer_for_another_entry_is_none(self):
+        for place in (2, 3):
+            self.assertEqual(self.b.js(f"""(async () => {{
+                const {{ bench }} = page.session, asked = bench.in.bind(bench);
+                bench.in = () => {{
+                    const answer = asked();
+                    if (answer.bytes?.length) answer.bytes[{place}] ^= 1;
+                    return answer;
+                }};
+                return page.model.simulated.read(0, 0).then(String, (error) => error.message).finally(() => delete bench.in);
+            }})()"""), "another program selected an entry meanwhile; read again")
+
     def test_the_page_says_which_it_is(self):
         self.shows("#which", "These are the keys of the simulated keyboard. Connect a real one to set its keys.")
         self.shows("#situation", re.compile(".*comes back by itself.* A choice from a file is for all files\\."))
@@ -239,7 +289,7 @@ class Simulated(Configured):
         self.assertEqual(self.b.js("page.session.ledger.confirmed"), 0)
 
     def test_a_file_is_taken_where_the_tool_takes_it(self):
-        """The rows of examples/keymap/src/file/tests.rs."""
+        """The rows of rust/keymap/src/file/tests.rs."""
         text = json.dumps(keymap_file(), indent=1)
         named = lambda name: text.replace("{", '{"name": "' + name + '",', 1)
         version = lambda number: text.replace('"version": 1', f'"version": {number}')

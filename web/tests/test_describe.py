@@ -43,7 +43,8 @@ class Described(PageTest):
         self.assertEqual(items[19], ["Logical Minimum", "-127"])
         self.assertEqual(items[23], ["Input", "Data, Variable, Relative"])
         self.assertEqual(self.b.js("[...document.querySelectorAll('.fields li')].map((one) => one.textContent)"),
-                         ["bit 0: 3 × 1 bit, variable, 0 to 1: Button 1, Button 2, Button 3", "bit 8: 2 × 8 bits, variable, -127 to 127: X, Y"])
+                         ["Pointer (Physical)", "bit 0: 3 × 1 bit, variable, 0 to 1: Button 1, Button 2, Button 3", "bit 8: 2 × 8 bits, variable, relative, -127 to 127: X, Y"])
+        self.assertEqual(self.b.js("[...document.querySelectorAll('#reports h2')].map((one) => one.textContent)"), ["Mouse (Application)"])
         self.assertEqual(self.b.js("document.querySelectorAll('.bit').length"), 24)
         self.b.choose("#report", "05 ff 02")
         self.shows("#report-said", "5 values, 4 not 0.")
@@ -53,6 +54,34 @@ class Described(PageTest):
         self.b.press("ArrowLeft", "ArrowLeft", 37)
         self.shows(".bit-said", "Byte 0, bit 1: Button 2")
         self.b.screenshot(SHOTS / "describe-mouse.png")
+
+    def test_fields_stand_under_their_collections_with_units_and_extents(self):
+        """Two fingers of a touch screen, whose X is 0 to 4095 for 0 to 12.10 cm, a force in a unit of the vendor's, and a mouse."""
+        finger = "09 22 a1 02 09 42 15 00 25 01 75 01 95 01 81 02 75 07 81 03 05 01 09 30 26 ff 0f 46 ba 04 65 11 55 0e 75 10 81 02 45 00 65 00 55 00 05 0d c0 "
+        force = "09 30 25 7f 75 08 65 1f 55 03 81 42 65 00 55 00 "
+        self.describe(f"05 0d 09 04 a1 01 85 01 {finger}{finger}{force}c0 05 01 09 02 a1 01 85 02 09 38 15 81 25 7f 75 08 81 06 c0", re.compile(".*6 fields, 2 reports. No fault."))
+        self.assertEqual(self.b.js("[...document.querySelectorAll('#reports h2')].map((one) => one.textContent)"), ["Touch Screen (Application)", "Mouse (Application)"])
+        lines = self.b.js("[...document.querySelectorAll('.fields')].map((one) => [...one.children].map((line) => line.textContent))")
+        items = {tuple(item) for item in self.items()}
+        self.assertLessEqual({("Physical Maximum", "1210"), ("Unit", "00000011h"), ("Unit Exponent", "-2"), ("Unit Exponent", "3"), ("Unit", "0000001Fh")}, items)
+        extents = "variable, 0 to 4095, which is 0 to 1210 × 10⁻² centimetre: X"
+        self.assertEqual(lines, [[
+            "Finger (Logical)", "bit 0: 1 × 1 bit, variable, 0 to 1: Tip Switch", f"bit 8: 1 × 16 bits, {extents}",
+            "Finger (Logical)", "bit 24: 1 × 1 bit, variable, 0 to 1: Tip Switch", f"bit 32: 1 × 16 bits, {extents}",
+            "Touch Screen (Application)", "bit 48: 1 × 8 bits, variable, 0 to 127 or null, in unit 0000001Fh × 10³: Tip Pressure",
+        ], ["bit 0: 1 × 8 bits, variable, relative, -127 to 127: Wheel"]])
+
+    def test_a_report_that_nobody_wrote_has_the_right_size(self):
+        for text, report in ((MOUSE, "00 00 00"), (f"{MOUSE} 05", ""), ("85 07 05 01 09 30 25 7f 75 08 95 03 81 02", "07 00 00 00"), ("05 08 09 01 25 01 75 01 95 01 91 02", "")):
+            self.b.choose("#descriptor", text)
+            self.has("document.querySelector('#report').value", report)
+        self.b.click("#own-descriptor")
+        self.shows("#report-said", "169 values, 2 not 0.")
+        self.b.choose("#descriptor", MOUSE)
+        self.shows("#report-said", "5 values, 0 not 0.")
+        self.b.choose("#report", "01 02 03")
+        self.b.choose("#descriptor", f"{MOUSE} ")
+        self.assertEqual(self.b.js("document.querySelector('#report').value"), "01 02 03", "what a user wrote stays")
 
     def test_other_ways_to_write_bytes(self):
         pairs = MOUSE.split()
@@ -91,7 +120,8 @@ class Described(PageTest):
     def test_what_is_no_text_of_bytes(self):
         for text, why in (("", "there is no byte in it"), ("05 zz", "line 1, column 4: z is no hex digit"), ("5 1 0", "line 1, column 5: the text has 3 hex digits, and a byte takes two"),
                           ("{ 0x05,\n300 }", "line 2, column 1: 300 is no byte; those are 0x0 to 0xff, or 0 to 255 without a 0 in front"),
-                          ("05 01 \u00e9", "it has characters that no form of bytes has"), ("R: 3 05 01\n", "line 1, column 4: 3 is not the number of the bytes, which is 2")):
+                          ("05 01 \u0001", "it has characters that no form of bytes has"), ("05 01 \u00e9", r"line 1, column 7: \xc3 is no hex digit"),
+                          ("R: 3 05 01\n", "line 1, column 4: 3 is not the number of the bytes, which is 2")):
             self.describe(text, f"This is no report descriptor: {why}.")
 
     def test_a_value_that_is_none(self):

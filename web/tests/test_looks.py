@@ -191,6 +191,44 @@ class Looks(PageTest):
         self.pictures(1600)
 
 
+class OnAPhone(PageTest):
+    """A window of 390 pixels."""
+
+    def setUp(self):
+        super().setUp()
+        self.b.size(390, 844)
+        self.open(page_in_sight())
+
+    def test_the_picture_fits_and_ledger_and_power_switch_are_in_reach(self):
+        self.assertEqual(self.b.js("document.querySelector('#keyboard').scrollWidth - document.querySelector('#keyboard').clientWidth"), 0)
+        self.assertGreater(self.b.js("Math.min(...[...document.querySelectorAll('#keyboard button')].map((one) => one.getBoundingClientRect().height))"), 30)
+        for tab in ("Set keys", "Type", "Script"):
+            self.tab(tab)
+            for place in ("#keyboard", f"#panel-{tab.split()[0].lower()}", "#pages", "#log"):
+                self.b.js(f"document.querySelector({place!r}).scrollIntoView({{ block: 'center' }})")
+                for within in ("#ledger-head", "#cut", "#cut-inside"):
+                    seen = "((e, b) => e.contains(document.elementFromPoint(b.left + b.width / 2, b.top + b.height / 2)))"
+                    self.assertTrue(self.b.js(f"((e) => {seen}(e, e.getBoundingClientRect()))(document.querySelector({within!r}))"), f"{within}, {tab}, at {place}")
+
+    def test_a_key_is_set_and_the_power_cut(self):
+        self.assigned(0, 5)
+        self.b.click("#cut")
+        self.ledger("1 change confirmed, all of it is there")
+        self.b.screenshot(SHOTS / "390-play.png")
+
+
+class Ways(PageTest):
+    """Ways from the page to what is written beside it."""
+
+    def test_documents_are_there_and_the_licence_is_on_the_page(self):
+        links = self.b.js("[...document.querySelectorAll('footer a')].map((one) => one.getAttribute('href'))")
+        self.assertGreater(len(links), 4)
+        for link in links:
+            self.assertTrue((ROOT / "web" / link).resolve().is_file(), link)
+        self.b.js("document.querySelector('footer summary').click()")
+        self.shows("footer pre", (ROOT / "LICENSE-MIT").read_text().strip())
+
+
 class Shifts(PageTest):
     """Nothing jumps."""
 

@@ -191,6 +191,16 @@ class Flash(PageTest):
         self.b.press("ArrowLeft", "ArrowLeft", 37)
         self.shows("#bits-says", "header, sequence 1, format 2")
 
+    def test_reports_that_say_the_same_are_one_line(self):
+        """A cut leaves the idle rate of 500 ms that a keyboard begins with, so it repeats its reports."""
+        self.b.click("#cut")
+        lines = "document.querySelectorAll('#log div').length"
+        self.has("[...document.querySelectorAll('#log div')].some((one) => /[3-9] × nothing pressed$/.test(one.textContent))", True)
+        before = self.b.js(lines)
+        self.b.js("(() => { for (let n = 0; n < 300; n++) page.session.beat(); })()")
+        self.frame()
+        self.assertEqual(self.b.js(lines), before)
+
     def test_packets_have_names(self):
         self.assigned(0, 5)
         lines = self.b.js("[...document.querySelectorAll('#log div')].map((one) => [...one.children].map((span) => span.textContent))")

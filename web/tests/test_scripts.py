@@ -104,7 +104,37 @@ class Examples(PageTest):
         self.b.choose("#script", "set 0 0 0005\nentry 0 0\n")
         self.b.click("#script-run")
         self.becomes(self.lines, ["1 ack", "2 0005"])
-        self.tab("Set keys")
         self.legend(0, "B")
+        # It keeps its text, and goes on where it was.
+        self.tab("Type")
+        self.tab("Script")
+        self.assertEqual(self.b.js("document.querySelector('#script').value"), "set 0 0 0005\nentry 0 0\n")
+        self.assertEqual(self.lines(), ["1 ack", "2 0005"])
+        self.legend(0, "B")
+
+    def test_a_script_has_a_keyboard_of_its_own(self):
+        self.assigned(0, 6)
+        self.b.click("#cut")
+        self.ledger("1 change confirmed, all of it is there")
+        bus = self.b.text("#log")
+        self.tab("Script")
+        self.ledger("Set a key, then cut the power")
+        self.b.click("#script-run")
+        self.has("document.querySelector('#script-run').disabled", True)
+        self.tab("Set keys")
+        self.legend(0, "C")
+        self.ledger("1 change confirmed, all of it is there")
+        self.assertTrue(self.b.text("#log").startswith(bus))
+        # A command that is under way goes on when its keyboard is there again.
+        self.b.choose("#speed", "hand")
+        said = self.assign(1, 7)
+        self.writing()
+        self.tab("Script")
+        self.legend(0, "B")
+        self.tab("Set keys")
+        self.b.choose("#speed", "fast")
+        self.good(f"{said}: confirmed.")
+        self.view("Configure")
+        self.legend(0, "C")
 
 

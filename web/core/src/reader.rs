@@ -152,6 +152,48 @@ pub extern "C" fn field(number: usize) -> i32 {
     })
 }
 
+/// The number of a collection, or -1 for none.
+fn number_of(collection: Option<usize>) -> i64 {
+    collection.map_or(-1, |number| number as i64)
+}
+
+/// Writes what is declared beside a field: its flags, its unit, the number of the collection that it is in (four bytes each; -1 for
+/// none), its unit exponent and its physical extents (eight bytes each), and the name of its unit where it is a usual one. Its
+/// length, 36 or more.
+#[unsafe(no_mangle)]
+pub extern "C" fn detail(number: usize) -> i32 {
+    with_reader(|reader, buffer| {
+        let Some(detail) = reader.detail(number) else { return REFUSED };
+        let name = detail.unit_name().unwrap_or_default().as_bytes();
+        let mut record = Record(buffer);
+        for small in [detail.flags.into(), detail.unit.into(), number_of(detail.inside)] {
+            record.put(small, 4);
+        }
+        for large in [detail.exponent, detail.physical_min, detail.physical_max] {
+            record.put(large, 8);
+        }
+        for byte in name {
+            record.put((*byte).into(), 1);
+        }
+        36 + name.len() as i32
+    })
+}
+
+/// Writes a collection: its type, its usage, the number of the one that it is in (four bytes each; -1 for none), and whether it has
+/// a usage (a byte). Its length, 13.
+#[unsafe(no_mangle)]
+pub extern "C" fn collection(number: usize) -> i32 {
+    with_reader(|reader, buffer| {
+        let Some(collection) = reader.details().collections.get(number) else { return REFUSED };
+        let mut record = Record(buffer);
+        record.put(collection.kind.into(), 4);
+        record.put(collection.usage.unwrap_or_default().into(), 4);
+        record.put(number_of(collection.outer), 4);
+        record.put(collection.usage.is_some().into(), 1);
+        13
+    })
+}
+
 /// The usage of a place of a field, or usage `place` of an array's list: 32 bits, the page in the high half; 0 where there is
 /// none.
 #[unsafe(no_mangle)]
