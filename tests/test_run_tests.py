@@ -82,6 +82,17 @@ chosen = ["raises", "behind it", "beside it"]
         self.assertIn("   FAILED: raises (bin/test --only 'raises')", told)
         self.assertIn("== summary: 2 steps", told)
 
+    def test_the_copy_that_others_build_in_is_made_behind_the_gate(self):
+        steps = """
+import os
+run_tests.QUICK, run_tests.TIMED, run_tests.Run.program = [], [], lambda *_: ""
+run_tests.building.tree = lambda: os.makedirs(FOLDER + "/copy")
+run_tests.LANES = [[Step("removes it", ["rm", "-rf", FOLDER + "/copy"])], [Step("wants it", ["test", "-d", FOLDER + "/copy"])]]
+chosen = ["removes it", "wants it"]
+"""
+        with tempfile.TemporaryDirectory() as folder:
+            self.assertNotIn("FAILED", ran(f"FOLDER = {folder!r}\n{steps}"))
+
     def test_each_step_has_one_place(self):
         names = [step.name for step in run_tests.STEPS]
         self.assertEqual(sorted(set(names)), sorted(names))
