@@ -1,5 +1,5 @@
 //! The firmware core of a USB keyboard: four layers of 96 keys, kept in NOR flash. A key assignment that was acknowledged to
-//! the host survives every power loss.
+//! the host survives every power loss, on flash whose torn cells read the same each time and whose erase only sets bits.
 //!
 //! [`FlashKeyboard`] is the device with its flash; [`Keyboard`] is the device alone, and borrows its flash in the calls that
 //! use it. Each call is one event: a scan of the matrix, a packet of endpoint 0, a poll of endpoint 1, a step of the flash
