@@ -59,9 +59,9 @@ class Room:
         return os.path.join(self.folder, *names)
 
     def copy(self, folder):
-        """A copy of a folder of the tree, to be changed, in the place of an earlier one."""
+        """A copy of a folder of the tree, to be changed, in the place of an earlier one, without what was built of it."""
         shutil.rmtree(self.path(folder), ignore_errors=True)
-        return shutil.copytree(f"{self.tree}/{folder}", self.path(folder), ignore=shutil.ignore_patterns("Cargo.lock"))
+        return shutil.copytree(f"{self.tree}/{folder}", self.path(folder), ignore=shutil.ignore_patterns("Cargo.lock", "target"))
 
     def package(self, folder):
         """A package's folder in the tree, where its crates can be had."""
