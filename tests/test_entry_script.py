@@ -188,6 +188,23 @@ sleep 0.5
         self.write("crates/low/src/lib.rt", "2\n")
         self.assertEqual(self.call("run")[0], 1)
 
+    def test_the_newest_few_are_kept(self):
+        self.add_cargo()
+        self.prove()
+        for number in range(5):
+            self.write("rust/new.rs", f"{number}\n")
+            self.assertEqual(self.call("--way", "plain", "run")[:2], (0, "plain run\n"))
+        self.assertEqual(self.kept(), ["plain"] * 3 + ["proved"])
+        later = time.time() + 3600
+        for name in os.listdir(f"{self.top}/out/kbsim"):
+            os.utime(f"{self.top}/out/kbsim/{name}", (later, later))
+        self.write("rust/new.rs", "5\n")
+        self.assertEqual(self.call("--way", "plain", "run")[:2], (0, "plain run\n"), "a clock that is behind drops what was just built")
+        self.add_cargo(build="exit 1")
+        self.assertEqual(self.call("--quiet", "--way", "plain", "run"), (0, "plain run\n", ""))
+        self.write("rust/new.rs", "0\n")
+        self.assertEqual(self.call("--quiet", "--way", "plain", "run")[0], 1, "an old program is kept")
+
     def test_a_source_that_is_saved_while_it_is_built(self):
         self.add_cargo(build='[ ! -e src/late.rs ] || : >"$into/late"; cp -r "$into" "$TOP/built"; : >"$TOP/rust/src/later.rs"')
         os.mkdir(f"{self.top}/rust/src")

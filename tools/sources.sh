@@ -47,10 +47,13 @@ copy_of_proved() {
     sum_of_proved "$1"
 }
 
-# keep FILE NAME: keeps a file under this name, whole or not at all, for each user to read and to run.
+# keep FILE NAME: keeps a file under this name, whole or not at all, for each user to read and to run. Of other programs that were
+# made the same way the newest two stay.
 keep() {
     local part
     (umask 022 && mkdir -p "$kept")
     part=$(mktemp "$kept/part-XXXXXX")
     cp "$1" "$part" && chmod 755 "$part" && mv "$part" "$kept/$2" || { rm -f "$part" && return 1; }
+    find "$kept" -maxdepth 1 -name "${2%%-*}-*" ! -name "$2" -printf '%T@ %p\0' |
+        LC_ALL=C sort -zrn | sed -z '1,2d; s/[^ ]* //' | xargs -0 -r rm -f || true
 }
