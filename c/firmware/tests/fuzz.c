@@ -1,7 +1,8 @@
 // SPDX-License-Identifier: MIT OR Apache-2.0
 /* Each call in any order, on objects that were started, started over, zeroed or copied, with null pointers and lengths too large.
  * The functions of flash and driver fail at random, and call back: what is under way answers WZ_BUSY, anything else goes on.
- * Words: the number of calls, and the seed. Each answer has to be one that the header allows, and no byte beyond room changes. */
+ * Words: the number of calls, and the seed. Each answer has to be one that the header allows, and no byte beyond room changes. With
+ * DRAWN it is a target of libFuzzer (tools/fuzz). */
 #include "fuzz.h"
 
 void wz_panic(void) { abort(); }
@@ -162,6 +163,24 @@ static void make_objects(void) {
         }
 }
 
+static void free_objects(void) {
+    for (int kind = 0; kind < KINDS; kind++)
+        for (int number = 0; number < 2; number++)
+            free(objects[kind][number].memory);
+}
+
+#ifdef DRAWN
+int LLVMFuzzerTestOneInput(const uint8_t *bytes, size_t count);
+
+int LLVMFuzzerTestOneInput(const uint8_t *bytes, size_t count) {
+    drawn = bytes, left = count;
+    make_objects();
+    while (left > 1)
+        any_call();
+    free_objects();
+    return 0;
+}
+#else
 int main(int count, char **words) {
     long wanted = count > 1 ? atol(words[1]) : 10000;
     seed(count > 2 ? (uint32_t)atol(words[2]) : 1);
@@ -169,9 +188,8 @@ int main(int count, char **words) {
     while (calls < wanted)
         any_call();
     NEEDS(nested > wanted / 100 && refused > wanted / 100 && faults > wanted / 1000);
-    for (int kind = 0; kind < KINDS; kind++)
-        for (int number = 0; number < 2; number++)
-            free(objects[kind][number].memory);
+    free_objects();
     puts("calls at random: each answered as it has to be");
     return 0;
 }
+#endif

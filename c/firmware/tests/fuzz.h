@@ -22,11 +22,26 @@ typedef struct record {
 
 static object objects[KINDS][2];
 static long calls, nested, refused, faults;
-static uint32_t state;
 static int depth;
 static record records[4];
 
 void any_call(void);
+
+#ifdef DRAWN
+static const uint8_t *drawn;
+static size_t left;
+
+/* The next bytes of libFuzzer, ones behind the last: with a zero each chance would be met. */
+static inline uint32_t any(void) {
+    uint32_t number = 0;
+    if (left < 2)
+        return UINT32_MAX;
+    memcpy(&number, drawn, 2);
+    drawn += 2, left -= 2;
+    return number;
+}
+#else
+static uint32_t state;
 
 static inline void seed(uint32_t number) { state = number * 2654435761u + 1; }
 
@@ -35,6 +50,7 @@ static inline uint32_t any(void) {
     state ^= state >> 17;
     return state ^= state << 5;
 }
+#endif
 
 /* A pointer, or null. */
 static inline void *maybe(const void *pointer) { return any() % 24 ? (void *)(uintptr_t)pointer : NULL; }

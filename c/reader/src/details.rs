@@ -3,7 +3,7 @@
 
 use crate::calls::Range;
 use crate::edge::{Input, Output, Outputs, Places};
-use crate::handles::{Entry, Error, TABLE, both, kind_of, number_of, of_reader, tell, told};
+use crate::handles::{Entry, Error, TABLE, both, kind_of, number_of, of_reader, put_of, tell, told};
 use crate::status::Status;
 use core::ffi::c_char;
 use core::fmt;
@@ -127,20 +127,12 @@ fn refused(found: ReaderError, error: Output<Error>) -> Status {
 
 #[unsafe(no_mangle)]
 pub extern "C" fn hidr_detail_count(reader: u64, count: Output<usize>) -> Status {
-    told(|| {
-        let count = count.place()?;
-        count.put(of_reader(reader, |reader| Ok(reader.details().fields.len()))?);
-        Ok(())
-    })
+    put_of(reader, count, |reader| Ok(reader.details().fields.len()))
 }
 
 #[unsafe(no_mangle)]
 pub extern "C" fn hidr_detail_at(reader: u64, item: usize, into: Output<DetailOut>) -> Status {
-    told(|| {
-        let into = into.place()?;
-        into.put(of_reader(reader, |reader| detail_out(reader, item).ok_or(Status::Absent))?);
-        Ok(())
-    })
+    put_of(reader, into, |reader| detail_out(reader, item).ok_or(Status::Absent))
 }
 
 fn detail_out(reader: &Reader, item: usize) -> Option<DetailOut> {
@@ -170,13 +162,7 @@ fn detail_out(reader: &Reader, item: usize) -> Option<DetailOut> {
 
 #[unsafe(no_mangle)]
 pub extern "C" fn hidr_detail_of(reader: u64, field: usize, item: Output<usize>) -> Status {
-    told(|| {
-        let item = item.place()?;
-        item.put(of_reader(reader, |reader| {
-            reader.details().data_fields().nth(field).map(|placed| placed.place).ok_or(Status::Absent)
-        })?);
-        Ok(())
-    })
+    put_of(reader, item, |reader| reader.details().data_fields().nth(field).map(|placed| placed.place).ok_or(Status::Absent))
 }
 
 #[unsafe(no_mangle)]
@@ -193,28 +179,20 @@ pub extern "C" fn hidr_around(reader: u64, item: usize, into: Outputs<u32>, room
 
 #[unsafe(no_mangle)]
 pub extern "C" fn hidr_collection_count(reader: u64, count: Output<usize>) -> Status {
-    told(|| {
-        let count = count.place()?;
-        count.put(of_reader(reader, |reader| Ok(reader.details().collections.len()))?);
-        Ok(())
-    })
+    put_of(reader, count, |reader| Ok(reader.details().collections.len()))
 }
 
 #[unsafe(no_mangle)]
 pub extern "C" fn hidr_collection_at(reader: u64, collection: usize, into: Output<CollectionOut>) -> Status {
-    told(|| {
-        let into = into.place()?;
-        into.put(of_reader(reader, |reader| {
-            let found = reader.details().collections.get(collection).ok_or(Status::Absent)?;
-            Ok(CollectionOut {
-                offset: found.offset as u64,
-                kind: found.kind,
-                usage: found.usage.unwrap_or(0),
-                outer: place(found.outer),
-                has_usage: found.usage.is_some().into(),
-            })
-        })?);
-        Ok(())
+    put_of(reader, into, |reader| {
+        let found = reader.details().collections.get(collection).ok_or(Status::Absent)?;
+        Ok(CollectionOut {
+            offset: found.offset as u64,
+            kind: found.kind,
+            usage: found.usage.unwrap_or(0),
+            outer: place(found.outer),
+            has_usage: found.usage.is_some().into(),
+        })
     })
 }
 

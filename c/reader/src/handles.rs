@@ -1,7 +1,7 @@
 // SPDX-License-Identifier: MIT OR Apache-2.0
 //! What handles stand for, and what all calls share.
 
-use crate::edge::Place;
+use crate::edge::{Output, Place};
 use crate::status::Status;
 use crate::table::Table;
 use wuzhikar_hid::Reader;
@@ -39,6 +39,11 @@ impl From<ParseError> for Error {
 /// The kind of reports with this number.
 pub fn kind_of(number: u8) -> Option<Kind> {
     [Kind::Input, Kind::Output, Kind::Feature].get(usize::from(number)).copied()
+}
+
+/// The kind with this number of a report that is given.
+pub fn kind_of_report(number: u8, report: &[u8]) -> Result<Kind, Status> {
+    kind_of(number).ok_or(if report.is_empty() { Status::EmptyReport } else { Status::UnknownReport })
 }
 
 /// The number of a kind of reports.
@@ -81,6 +86,15 @@ pub fn of_reader<R>(handle: u64, call: impl FnOnce(&Reader) -> Result<R, Status>
     TABLE.with(handle, |entry| match entry {
         Entry::Reader(reader) => call(reader),
         Entry::Parser(_) | Entry::Refused(_) | Entry::Descriptor(_) => Err(Status::WrongKind),
+    })
+}
+
+/// Puts what a call makes of a reader.
+pub fn put_of<R: Copy>(reader: u64, into: Output<R>, make: impl FnOnce(&Reader) -> Result<R, Status>) -> Status {
+    told(|| {
+        let into = into.place()?;
+        into.put(of_reader(reader, make)?);
+        Ok(())
     })
 }
 

@@ -2,9 +2,10 @@
 //! The calls of `hid_reader.h` that write whatever the extents are, and that take all controls of one usage.
 
 use crate::edge::{Input, Output, Outputs, Shared};
-use crate::handles::{both, kind_of, of_reader, told};
+use crate::handles::{both, kind_of, kind_of_report, of_reader, told};
 use crate::status::Status;
-use wuzhikar_hid::{Asked, Kind, RawError, Reader, Setting, Target};
+use crate::values::{bytes_at, write};
+use wuzhikar_hid::{Asked, RawError, Setting, Target};
 
 fn why(error: RawError) -> Status {
     match error {
@@ -12,11 +13,6 @@ fn why(error: RawError) -> Status {
         RawError::NoPlace => Status::Absent,
         RawError::TooLarge => Status::TooLarge,
     }
-}
-
-/// The kind of a report that is given.
-fn kind_of_report(kind: u8, report: &[u8]) -> Result<Kind, Status> {
-    kind_of(kind).ok_or(if report.is_empty() { Status::EmptyReport } else { Status::UnknownReport })
 }
 
 #[unsafe(no_mangle)]
@@ -99,16 +95,6 @@ pub extern "C" fn hidr_read_all(
     })
 }
 
-/// The settings of the values of a usage, of their bytes.
-fn settings_of(usage: u32, bytes: &[u8]) -> Result<Vec<Setting>, Status> {
-    let values = bytes.chunks_exact(8).map(|eight| i64::from_ne_bytes(core::array::from_fn(|number| eight[number])));
-    let mut settings = Vec::new();
-    settings.try_reserve_exact(values.len()).map_err(|_| Status::NoMemory)?;
-    let setting = |(place, value)| Setting { target: Target::Usage { usage, place }, asked: Asked::Value(value) };
-    settings.extend(values.enumerate().map(setting));
-    Ok(settings)
-}
-
 #[unsafe(no_mangle)]
 #[allow(clippy::too_many_arguments)] // as C has them
 pub extern "C" fn hidr_write_all(
@@ -125,22 +111,10 @@ pub extern "C" fn hidr_write_all(
     length: Output<usize>,
     which: Output<usize>,
 ) -> Status {
-    told(|| {
-        let length = length.place()?;
-        let values = values.bytes(count.saturating_mul(size_of::<i64>()));
-        let ((into, values), onto) = both(both(into.places(room), values), onto.bytes(onto_length))?;
-        let written = |reader: &Reader| {
-            let kind = kind_of(kind).ok_or(Status::UnknownReport)?;
-            let onto = (!onto.is_empty()).then_some(onto);
-            reader.write(kind, id, &settings_of(usage, values)?, onto).map_err(|error| {
-                let (status, number) = Status::of_write(error);
-                if let (Some(number), Some(place)) = (number, which.place_if_any()) {
-                    place.put(number);
-                }
-                status
-            })
-        };
-        length.put(into.put_all(of_reader(reader, written)?.into_iter()));
-        Ok(())
-    })
+    let read = |(place, bytes): (usize, &[u8])| Setting {
+        target: Target::Usage { usage, place },
+        asked: Asked::Value(i64::from_ne_bytes(bytes_at(bytes, 0))),
+    };
+    let values = (values, count, size_of::<i64>());
+    write(reader, (kind, id), values, read, (onto, onto_length), (into, room, length), which)
 }

@@ -3,7 +3,7 @@
 
 use crate::details::{place, put_text};
 use crate::edge::{Input, Output, Outputs};
-use crate::handles::{both, kind_of, of_reader, told};
+use crate::handles::{both, kind_of, kind_of_report, of_reader, put_of, told};
 use crate::status::Status;
 use core::ffi::c_char;
 use core::mem::offset_of;
@@ -42,7 +42,7 @@ pub struct SettingIn {
 }
 
 /// So many bytes from one on.
-fn bytes_at<const N: usize>(bytes: &[u8], first: usize) -> [u8; N] {
+pub fn bytes_at<const N: usize>(bytes: &[u8], first: usize) -> [u8; N] {
     core::array::from_fn(|number| bytes.get(first + number).copied().unwrap_or(0))
 }
 
@@ -61,13 +61,36 @@ fn setting_of(bytes: &[u8]) -> Setting {
     Setting { target, asked: if null == 0 { Asked::Value(value) } else { Asked::Null } }
 }
 
-/// The settings of their bytes.
-fn settings_of(bytes: &[u8]) -> Result<Vec<Setting>, Status> {
-    let all = bytes.chunks_exact(size_of::<SettingIn>());
-    let mut settings = Vec::new();
-    settings.try_reserve_exact(all.len()).map_err(|_| Status::NoMemory)?;
-    settings.extend(all.map(setting_of));
-    Ok(settings)
+/// Writes a report with settings that stand in memory, so many of `size` bytes each, as they are read from these.
+pub fn write(
+    reader: u64,
+    (kind, id): (u8, u8),
+    (settings, count, size): (Input, usize, usize),
+    read: impl Fn((usize, &[u8])) -> Setting,
+    (onto, onto_length): (Input, usize),
+    (into, room, length): (Outputs<u8>, usize, Output<usize>),
+    which: Output<usize>,
+) -> Status {
+    told(|| {
+        let length = length.place()?;
+        let bytes = settings.bytes(count.saturating_mul(size));
+        let ((into, bytes), onto) = both(both(into.places(room), bytes), onto.bytes(onto_length))?;
+        let report = of_reader(reader, |reader| {
+            let kind = kind_of(kind).ok_or(Status::UnknownReport)?;
+            let mut settings = Vec::new();
+            settings.try_reserve_exact(count).map_err(|_| Status::NoMemory)?;
+            settings.extend(bytes.chunks_exact(size).enumerate().map(read));
+            reader.write(kind, id, &settings, (!onto.is_empty()).then_some(onto)).map_err(|error| {
+                let (status, number) = Status::of_write(error);
+                if let (Some(number), Some(place)) = (number, which.place_if_any()) {
+                    place.put(number);
+                }
+                status
+            })
+        })?;
+        length.put(into.put_all(report.into_iter()));
+        Ok(())
+    })
 }
 
 #[unsafe(no_mangle)]
@@ -88,7 +111,7 @@ pub extern "C" fn hidr_read(
             if into.overlap(report) {
                 return Err(Status::Overlap);
             }
-            let kind = kind_of(kind).ok_or(if report.is_empty() { Status::EmptyReport } else { Status::UnknownReport })?;
+            let kind = kind_of_report(kind, report)?;
             let reading = reader.read(kind, report)?;
             let left = reading.rest().len();
             Ok((into.put_all(reading.map(|value| value_out(reader, &value))), left))
@@ -115,10 +138,7 @@ pub extern "C" fn hidr_buffered(
     told(|| {
         let count = count.place()?;
         let (into, report) = both(into.places(room), report.bytes(length))?;
-        let bytes = of_reader(reader, |reader| {
-            let kind = kind_of(kind).ok_or(if report.is_empty() { Status::EmptyReport } else { Status::UnknownReport })?;
-            Ok(reader.buffered(kind, report, field)?)
-        })?;
+        let bytes = of_reader(reader, |reader| Ok(reader.buffered(kind_of_report(kind, report)?, report, field)?))?;
         count.put(into.put_all(bytes.into_iter()));
         Ok(())
     })
@@ -144,44 +164,30 @@ pub extern "C" fn hidr_changes(
         let counts = both(pressed_count.place(), released_count.place())?;
         let into = both(pressed.places(pressed_room), released.places(released_room));
         let (into, (before, now)) = both(into, both(before.bytes(before_length), now.bytes(now_length)))?;
-        let changed = of_reader(reader, |reader| {
-            let is_empty = before.is_empty();
-            let kind = kind_of(kind).ok_or(if is_empty { Status::EmptyReport } else { Status::UnknownReport })?;
-            Ok(reader.changes(kind, before, now)?)
-        })?;
+        let changed = of_reader(reader, |reader| Ok(reader.changes(kind_of_report(kind, before)?, before, now)?))?;
         counts.0.put(into.0.put_all(changed.pressed.into_iter()));
         counts.1.put(into.1.put_all(changed.released.into_iter()));
         Ok(())
     })
 }
 
-/// What a call makes of the detail of a field.
-fn of_field<R>(reader: u64, field: usize, call: impl FnOnce(&Detail) -> Result<R, Status>) -> Result<R, Status> {
-    of_reader(reader, |reader| call(reader.detail(field).ok_or(Status::Absent)?))
+/// The detail of a field.
+fn detail_of(reader: &Reader, field: usize) -> Result<&Detail, Status> {
+    reader.detail(field).ok_or(Status::Absent)
 }
 
 #[unsafe(no_mangle)]
 pub extern "C" fn hidr_physical(reader: u64, field: usize, raw: i64, into: Output<Fraction>) -> Status {
-    told(|| {
-        let into = into.place()?;
-        let exact = of_field(reader, field, |detail| Ok(detail.physical_value(raw)?))?;
+    put_of(reader, into, |reader| {
+        let exact = detail_of(reader, field)?.physical_value(raw)?;
         let small = |number: i128| i64::try_from(number).map_err(|_| Status::TooLarge);
-        into.put(Fraction {
-            numerator: small(exact.numerator)?,
-            denominator: small(exact.denominator)?,
-            exponent: exact.exponent,
-        });
-        Ok(())
+        Ok(Fraction { numerator: small(exact.numerator)?, denominator: small(exact.denominator)?, exponent: exact.exponent })
     })
 }
 
 #[unsafe(no_mangle)]
 pub extern "C" fn hidr_value_of(reader: u64, field: usize, numerator: i64, denominator: u64, raw: Output<i64>) -> Status {
-    told(|| {
-        let raw = raw.place()?;
-        raw.put(of_field(reader, field, |detail| Ok(detail.value_of(numerator, denominator)?))?);
-        Ok(())
-    })
+    put_of(reader, raw, |reader| Ok(detail_of(reader, field)?.value_of(numerator, denominator)?))
 }
 
 #[unsafe(no_mangle)]
@@ -196,7 +202,7 @@ pub extern "C" fn hidr_decimal(
 ) -> Status {
     told(|| {
         let (length, into) = (length.place()?, into.places(room)?);
-        let exact = of_field(reader, field, |detail| Ok(detail.physical_value(raw)?))?;
+        let exact = of_reader(reader, |reader| Ok(detail_of(reader, field)?.physical_value(raw)?))?;
         length.put(put_text(into, |out| exact.write_decimal(digits, out)));
         Ok(())
     })
@@ -217,24 +223,9 @@ pub extern "C" fn hidr_write(
     length: Output<usize>,
     which: Output<usize>,
 ) -> Status {
-    told(|| {
-        let length = length.place()?;
-        let settings = settings.bytes(count.saturating_mul(size_of::<SettingIn>()));
-        let ((into, settings), onto) = both(both(into.places(room), settings), onto.bytes(onto_length))?;
-        let report = of_reader(reader, |reader| {
-            let kind = kind_of(kind).ok_or(Status::UnknownReport)?;
-            let onto = (!onto.is_empty()).then_some(onto);
-            reader.write(kind, id, &settings_of(settings)?, onto).map_err(|error| {
-                let (status, number) = Status::of_write(error);
-                if let (Some(number), Some(place)) = (number, which.place_if_any()) {
-                    place.put(number);
-                }
-                status
-            })
-        })?;
-        length.put(into.put_all(report.into_iter()));
-        Ok(())
-    })
+    let settings = (settings, count, size_of::<SettingIn>());
+    let read = |(_, bytes): (usize, &[u8])| setting_of(bytes);
+    write(reader, (kind, id), settings, read, (onto, onto_length), (into, room, length), which)
 }
 
 fn value_out(reader: &Reader, value: &Value) -> ValueOut {

@@ -1,19 +1,32 @@
 // SPDX-License-Identifier: MIT OR Apache-2.0
 /* The calls of a reader on descriptors, reports and settings that look random: `fuzz_reader SECONDS SEED FILE..`, where each file is
- * a descriptor. A report that is written is read back, and what two reports differ in is what is read in them. */
-#include "check.h"
+ * a descriptor. A report that is written is read back, and what two reports differ in is what is read in them. With DRAWN it is a
+ * target of libFuzzer (tools/fuzz). */
+#include "fuzz_views.h"
 
 #include <time.h>
 
 #define BYTES 4096
-#define PLACES (1 << 18)
 
-static uint64_t state;
-static uint8_t texts[64][BYTES], text[BYTES];
-static size_t lengths[64], files;
-static hidr_value values[2][PLACES];
+static uint8_t text[BYTES];
 static uint32_t changed[2][PLACES];
-static uint8_t reports[2][BYTES], written[1 << 21];
+static uint8_t reports[2][BYTES];
+
+#ifdef DRAWN
+static const uint8_t *drawn;
+static size_t left;
+
+/* The next bytes of libFuzzer; zeros behind the last one. */
+static uint64_t below(uint64_t limit) {
+    uint64_t number = 0;
+    for (uint64_t most = 1; most < limit && left > 0; most <<= 8, left--)
+        number = number << 8 | *drawn++;
+    return number % limit;
+}
+#else
+static uint64_t state;
+static uint8_t texts[64][BYTES];
+static size_t lengths[64], files;
 
 static uint64_t below(uint64_t limit) {
     state ^= state << 13;
@@ -38,6 +51,8 @@ static size_t mutated(void) {
     }
     return length;
 }
+
+#endif
 
 static int is_in(const uint32_t *usages, size_t count, uint32_t usage) {
     for (size_t at = 0; at < count; at++)
@@ -101,10 +116,48 @@ static void writes(hidr_reader reader, uint8_t kind, size_t length) {
     ANSWERS(HIDR_OK, hidr_read(reader, kind, written, long_, values[0], PLACES, &told, NULL));
 }
 
+/* A text with reports, and all that is asked of them. 1 where the text is a descriptor. */
+static int reads(size_t text_length) {
+    hidr_reader reader;
+    if (hidr_reader_open(text, text_length, &reader, NULL) != HIDR_OK)
+        return 0;
+    for (int times = 0; times < 8; times++) {
+        size_t length[2] = {below(40), below(40)};
+        uint8_t kind = (uint8_t)below(4);
+        for (int number = 0; number < 2; number++)
+            for (size_t at = 0; at < length[number]; at++)
+                reports[number][at] = (uint8_t)(at == 0 ? below(4) : below(3) ? below(256) : 0);
+        if (below(2))
+            memcpy(reports[1], reports[0], length[1] = length[0]), reports[1][below(40)] ^= (uint8_t)(1 << below(8));
+        compares(reader, kind, length);
+        writes(reader, kind, length[0]);
+        looks(reader, kind, reports[1], length[1]);
+    }
+    ANSWERS(HIDR_OK, hidr_close(reader));
+    return 1;
+}
+
+#ifdef DRAWN
+int LLVMFuzzerTestOneInput(const uint8_t *bytes, size_t count);
+
+/* The first byte is half the length of the text behind it. */
+int LLVMFuzzerTestOneInput(const uint8_t *bytes, size_t count) {
+    size_t length = count == 0 ? 0 : 2 * (size_t)bytes[0];
+    if (room_end == NULL)
+        room_end = room_at_the_end(BYTES) + BYTES;
+    drawn = bytes + (count > 0), left = count - (count > 0);
+    length = length < left ? length : left;
+    memcpy(text, drawn, length);
+    drawn += length, left -= length;
+    reads(length);
+    return 0;
+}
+#else
 int main(int words, char **word) {
     uint64_t rounds = 0, opened = 0;
     time_t end = time(NULL) + atol(word[1]);
     state = (uint64_t)atol(word[2]) * 2 + 1;
+    room_end = room_at_the_end(BYTES) + BYTES;
     for (int at = 3; at < words && files < 64; at++) {
         FILE *file = fopen(word[at], "rb");
         CHECK(file);
@@ -112,25 +165,11 @@ int main(int words, char **word) {
         files += lengths[files] > 0;
         fclose(file);
     }
-    for (; time(NULL) < end; rounds++) {
-        hidr_reader reader;
-        if (hidr_reader_open(text, mutated(), &reader, NULL) != HIDR_OK)
-            continue;
-        opened++;
-        for (int times = 0; times < 8; times++) {
-            size_t length[2] = {below(40), below(40)};
-            uint8_t kind = (uint8_t)below(4);
-            for (int number = 0; number < 2; number++)
-                for (size_t at = 0; at < length[number]; at++)
-                    reports[number][at] = (uint8_t)(at == 0 ? below(4) : below(3) ? below(256) : 0);
-            if (below(2))
-                memcpy(reports[1], reports[0], length[1] = length[0]), reports[1][below(40)] ^= (uint8_t)(1 << below(8));
-            compares(reader, kind, length);
-            writes(reader, kind, length[0]);
-        }
-        ANSWERS(HIDR_OK, hidr_close(reader));
-    }
+    for (; time(NULL) < end; rounds++)
+        opened += (uint64_t)reads(mutated());
     fprintf(stderr, "%llu texts, %llu readers\n", (unsigned long long)rounds, (unsigned long long)opened);
+    CHECK(opened > 0 && keys_seen > 0 && axes_seen > 0 && raw_puts > 0 && raw_reports > 0 && all_written > 0);
     printf("what is read, compared and written: each as it has to be\n");
     return 0;
 }
+#endif
