@@ -28,10 +28,9 @@ ERASE = "for at in (from..to)"
 
 # A firmware with the default codes of tests in place of the standard ones. The program of the host knows them by `layout`.
 LAYOUT = [
-    Edit(f"{FIRMWARE}/main.rs", "use wuzhikar::UnstartedKeyboard;", "use wuzhikar::UnstartedKeyboardOf;"),
-    Edit(f"{FIRMWARE}/main.rs", "static mut MEMORY: UnstartedKeyboard = UnstartedKeyboard::NEW;",
-         '#[path = "../../../rust/tests/src/other.rs"]\nmod other;\n'
-         "static mut MEMORY: UnstartedKeyboardOf<other::Other> = UnstartedKeyboardOf::NEW;"),
+    Edit(f"{FIRMWARE}/main.rs", "use wuzhikar::{KeyboardOf, Standard, UnstartedKeyboardOf};", "use wuzhikar::{KeyboardOf, UnstartedKeyboardOf};"),
+    Edit(f"{FIRMWARE}/main.rs", "type Codes = Standard;",
+         '#[path = "../../../rust/tests/src/other.rs"]\nmod other;\ntype Codes = other::Other;'),
 ]
 
 FAULTS = [

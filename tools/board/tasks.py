@@ -23,9 +23,10 @@ class Task(NamedTuple):
     least: bool = False
 
 
-def allowed(kept):
-    """How much a call may take where so much is kept. What is between two looks depends a little on how the bytes come."""
-    return 1.1 * kept + 250
+def allowed(what, kept):
+    """How much a call may take where so much is kept. What is between two looks depends a little on how the bytes come; the stack does
+    not, and the deepest one may grow by a twentieth."""
+    return 1.05 * kept if "stack" in what else 1.1 * kept + 250
 
 
 def measure(bench, write):
@@ -42,7 +43,7 @@ def measure(bench, write):
         return
     counts = dict(row.rsplit("\t", 1) for row in kept if not row.startswith("#"))
     more = [f"{row}, and {counts.get(what)} is kept" for row in rows for what, count in [row.rsplit("\t", 1)]
-            if int(count) > allowed(int(counts.get(what, 0)))]
+            if int(count) > allowed(what, int(counts.get(what, 0)))]
     if more:
         raise Failed("\n    ".join(["calls take more than is allowed by bench/chip.tsv (bin/board-test --only calls --write):", *more]))
     say(f"{len(rows)} counts of instructions and bytes are those of bench/chip.tsv, or little more")

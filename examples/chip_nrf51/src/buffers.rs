@@ -6,9 +6,11 @@ use crate::PRODUCT;
 use crate::frames::{Frame, dump, out, scan};
 use crate::uart::Uart;
 use core::cell::RefCell;
+use core::mem::MaybeUninit;
 use wuzhikar::NorFlash;
 use wuzhikar_device::{
-    Buffers, Change, Controller, DeviceLayer, Endpoint1, HasKeyboard, Input, Keys, Output, Report, UsbDevice, Waiting,
+    Buffers, Change, Controller, DeviceLayer, Endpoint1, Endpoints, HasKeyboard, Input, Keys, Output, Report, UsbDevice,
+    Waiting,
 };
 
 const NOTHING: Waiting = Waiting { reset: false, setup: None, out: None, taken: false };
@@ -91,11 +93,13 @@ impl State {
     }
 }
 
+static mut STATE: MaybeUninit<RefCell<State>> = MaybeUninit::uninit();
+
 /// The controller: endpoint 0 for the loop, and a copy of it, endpoint 1, that the device owns.
 #[derive(Clone, Copy)]
-struct Soft<'s>(&'s RefCell<State>);
+pub struct Soft(&'static RefCell<State>);
 
-impl Controller for Soft<'_> {
+impl Controller for Soft {
     fn waiting(&mut self) -> Waiting {
         core::mem::replace(&mut self.0.borrow_mut().met, NOTHING)
     }
@@ -122,7 +126,7 @@ impl Controller for Soft<'_> {
     }
 }
 
-impl Buffers for Soft<'_> {
+impl Buffers for Soft {
     fn has_two(&self) -> bool {
         false
     }
@@ -155,11 +159,16 @@ impl Buffers for Soft<'_> {
     }
 }
 
-pub fn run<F: NorFlash, K: HasKeyboard>(keys: Keys<F, K>, uart: &mut Uart) -> ! {
-    let state = RefCell::new(State::new());
-    let mut soft = Soft(&state);
-    let layer = DeviceLayer::new(PRODUCT.descriptors());
-    let mut device = UsbDevice::new(layer, keys, soft, PRODUCT.identity().packet_size);
+/// The device behind its layer, and over its controller.
+pub fn device<K: Endpoints>(keys: K) -> UsbDevice<'static, K, Soft> {
+    // SAFETY: it is called once, and nothing else has named the state.
+    let state = unsafe { &mut *(&raw mut STATE) }.write(RefCell::new(State::new()));
+    UsbDevice::new(DeviceLayer::new(PRODUCT.descriptors()), keys, Soft(state), PRODUCT.identity().packet_size)
+}
+
+pub fn run<F: NorFlash, K: HasKeyboard>(device: &mut UsbDevice<'_, Keys<F, K>, Soft>, uart: &mut Uart) -> ! {
+    // SAFETY: `device`, whose result this is, wrote the state.
+    let mut soft = Soft(unsafe { (*(&raw const STATE)).assume_init_ref() });
     loop {
         while !uart.waits() {
             device.work();
@@ -168,16 +177,13 @@ pub fn run<F: NorFlash, K: HasKeyboard>(keys: Keys<F, K>, uart: &mut Uart) -> ! 
                 uart.sleep();
             }
         }
-        serve(&mut device, soft, uart);
+        serve(device, soft, uart);
     }
 }
 
 /// What one request asks for: the token is answered from the buffers, and then the device is asked.
-fn serve<'s, F: NorFlash, K: HasKeyboard>(
-    device: &mut UsbDevice<'_, Keys<F, K>, Soft<'s>>,
-    mut soft: Soft<'s>,
-    uart: &mut Uart,
-) {
+#[inline(never)]
+fn serve<F: NorFlash, K: HasKeyboard>(device: &mut UsbDevice<'_, Keys<F, K>, Soft>, mut soft: Soft, uart: &mut Uart) {
     let state = soft.0;
     let (kind, packet) = match uart.byte() {
         b'm' => {

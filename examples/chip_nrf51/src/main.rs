@@ -33,6 +33,7 @@ mod uart;
 
 #[cfg(feature = "buffers")]
 use buffers as main_loop;
+use core::mem::MaybeUninit;
 use core::panic::PanicInfo;
 #[cfg(feature = "ecc")]
 use ecc as pages;
@@ -42,12 +43,12 @@ use plain as pages;
 #[cfg(not(feature = "buffers"))]
 use token as main_loop;
 use uart::Uart;
-use wuzhikar::UnstartedKeyboard;
+use wuzhikar::{KeyboardOf, Standard, UnstartedKeyboardOf};
 #[cfg(not(feature = "buffers"))]
 use wuzhikar_device::Device;
-#[cfg(feature = "buffers")]
-use wuzhikar_device::Keys;
 use wuzhikar_device::{Identity, Product, utf16};
+#[cfg(feature = "buffers")]
+use wuzhikar_device::{Keys, UsbDevice};
 
 static PRODUCT: Product = Product::of(Identity {
     manufacturer: utf16!("Example"),
@@ -56,24 +57,42 @@ static PRODUCT: Product = Product::of(Identity {
     ..Identity::TEST
 });
 
-static mut MEMORY: UnstartedKeyboard = UnstartedKeyboard::NEW;
+/// The default codes; write a `Layout` of your own in their place.
+type Codes = Standard;
+
+#[cfg(not(feature = "buffers"))]
+type Started = Device<'static, pages::Flash, &'static mut KeyboardOf<Codes>>;
+#[cfg(feature = "buffers")]
+type Started = UsbDevice<'static, Keys<pages::Flash, &'static mut KeyboardOf<Codes>>, buffers::Soft>;
+
+static mut MEMORY: UnstartedKeyboardOf<Codes> = UnstartedKeyboardOf::NEW;
+
+/// What has started.
+static mut DEVICE: MaybeUninit<Started> = MaybeUninit::uninit();
 
 /// Called by `reset`, once.
 #[unsafe(no_mangle)]
 extern "C" fn run() -> ! {
     let mut uart = Uart::start();
-    // SAFETY: it runs once, and nothing else names the memory.
-    let memory = unsafe { &mut *(&raw mut MEMORY) };
-    let Some(flash) = pages::flash() else { stopped() };
-    // The flash has 2 pages, so that none is refused.
-    #[cfg(not(feature = "buffers"))]
-    let Ok(device) = Device::start_in(memory, flash, &PRODUCT) else { stopped() };
-    #[cfg(feature = "buffers")]
-    let Ok(device) = Keys::start_in(memory, flash) else { stopped() };
+    let Some(device) = start() else { stopped() };
     Frame::of(b'B').send(&mut uart, 0);
     uart.begin();
     Frame::of(b'k').send(&mut uart, 0);
     main_loop::run(device, &mut uart)
+}
+
+/// The device in its place, or nothing where the flash can't be had. What a start takes of the stack is free behind it.
+#[inline(never)]
+fn start() -> Option<&'static mut Started> {
+    // SAFETY: it runs once, and nothing else names the memory and the device.
+    let (memory, device) = unsafe { (&mut *(&raw mut MEMORY), &mut *(&raw mut DEVICE)) };
+    let flash = pages::flash()?;
+    // The flash has 2 pages, so that none is refused.
+    #[cfg(not(feature = "buffers"))]
+    let started = Device::start_in(memory, flash, &PRODUCT).ok()?;
+    #[cfg(feature = "buffers")]
+    let started = buffers::device(Keys::start_in(memory, flash).ok()?);
+    Some(device.write(started))
 }
 
 fn stopped() -> ! {

@@ -6,7 +6,7 @@ use crate::uart::Uart;
 use wuzhikar::{NorFlash, Work};
 use wuzhikar_device::{Device, EpAnswer, HasKeyboard, PollAnswer};
 
-pub fn run<F: NorFlash, K: HasKeyboard>(mut device: Device<'_, F, K>, uart: &mut Uart) -> ! {
+pub fn run<F: NorFlash, K: HasKeyboard>(device: &mut Device<'_, F, K>, uart: &mut Uart) -> ! {
     loop {
         while !uart.waits() {
             match device.work() {
@@ -15,11 +15,12 @@ pub fn run<F: NorFlash, K: HasKeyboard>(mut device: Device<'_, F, K>, uart: &mut
                 Work::Working | Work::Settled | Work::Failed => {}
             }
         }
-        serve(&mut device, uart);
+        serve(device, uart);
     }
 }
 
 /// What one request asks for.
+#[inline(never)]
 fn serve<F: NorFlash, K: HasKeyboard>(device: &mut Device<'_, F, K>, uart: &mut Uart) {
     match uart.byte() {
         b'm' => {
@@ -35,14 +36,8 @@ fn serve<F: NorFlash, K: HasKeyboard>(device: &mut Device<'_, F, K>, uart: &mut 
             let answer = device.out(&packet[..length]);
             endpoint_0(&answer, device.why().number()).send(uart, device.leds());
         }
-        b'i' => {
-            let (answer, change) = device.in_packet();
-            endpoint_0(&answer, device.why().number()).with(change).send(uart, device.leds());
-        }
-        b'p' => {
-            let answer = device.poll();
-            endpoint_1(&answer).send(uart, device.leds());
-        }
+        b'i' => in_packet(device, uart),
+        b'p' => poll(device, uart),
         b'r' => {
             device.bus_reset();
             Frame::of(b'k').reset().send(uart, device.leds());
@@ -50,6 +45,18 @@ fn serve<F: NorFlash, K: HasKeyboard>(device: &mut Device<'_, F, K>, uart: &mut 
         b'd' => dump(uart, device.keyboard()),
         _ => {}
     }
+}
+
+#[inline(never)]
+fn in_packet<F: NorFlash, K: HasKeyboard>(device: &mut Device<'_, F, K>, uart: &mut Uart) {
+    let (answer, change) = device.in_packet();
+    endpoint_0(&answer, device.why().number()).with(change).send(uart, device.leds());
+}
+
+#[inline(never)]
+fn poll<F: NorFlash, K: HasKeyboard>(device: &mut Device<'_, F, K>, uart: &mut Uart) {
+    let answer = device.poll();
+    endpoint_1(&answer).send(uart, device.leds());
 }
 
 fn endpoint_0(answer: &EpAnswer, why: u8) -> Frame<'_> {
