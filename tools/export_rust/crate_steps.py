@@ -95,6 +95,7 @@ def hosts(room, _):
     """Runs the tests of what meets a host."""
     room.tests("--release", cwd=room.package("tests/real_host"), name="tests/real_host")
     room.tests(cwd=room.package("examples/usb_device_class"), name="examples/usb_device_class")
+    room.tests(cwd=room.package("examples/chip_rp2040"), name="examples/chip_rp2040")
 
 
 STEPS = {

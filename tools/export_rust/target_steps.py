@@ -4,6 +4,7 @@ import os
 import shutil
 
 import acceptance
+import in_ram
 from crate_steps import FEATURES
 from room import DEBIAN_RUSTC, Failed, Skipped, building, debian_sources, say
 from debian_crates import REGISTRY, SOURCE
@@ -20,11 +21,11 @@ SOURCES = "Debian: rustc-web and rust-web-src, of 1.96; the sources of 1.85 have
 PROGRAMS = {
     "firmware": ("firmware", BARE, 13_000),
     "chip_nrf51": ("chip_nrf51", ("thumbv6m-none-eabi",), 13_800),
+    "chip_rp2040": ("chip_rp2040", ("thumbv6m-none-eabi",), 17_300),
     "settings_stm32g0": ("settings", ("thumbv6m-none-eabi",), 6_300),
 }
 
-# Drivers of USB controllers, and a target of their chips.
-DRIVERS = ("rp2040_usb", "stm32_usb")
+# A target of the chips whose USB controllers have drivers.
 OF_DRIVERS = "thumbv6m-none-eabi"
 
 
@@ -56,14 +57,15 @@ def build_bare(room, name, target, more):
     if initialized:
         raise Failed(f"{name} for {target} has {initialized} bytes of initialized data: what it keeps in RAM is to begin as zeros, "
                      "by `unstarted` in tools/export_rust/rules.py")
+    if name == "chip_rp2040" and (faults := in_ram.check(room.program(name, target))):
+        raise Failed(f"examples/{name}: " + "; ".join(faults))
     say(f"examples/{folder}{inner} builds for {target}, {text} bytes of text")
 
 
 def build_drivers(room, more):
     """Builds the drivers of USB controllers."""
-    names = [word for name in DRIVERS for word in ("--example", name)]
-    room.cargo("build", "--release", "--target", OF_DRIVERS, "-p", "wuzhikar-device", *names, **more)
-    say(f"the drivers {' and '.join(DRIVERS)} build for {OF_DRIVERS}")
+    room.cargo("build", "--release", "--target", OF_DRIVERS, "-p", "wuzhikar-device", "--example", "drivers", **more)
+    say(f"the drivers of rust/wuzhikar-device build for {OF_DRIVERS}")
 
 
 def bare(room, _):

@@ -1,14 +1,16 @@
 // SPDX-License-Identifier: MIT OR Apache-2.0
 
 //! A `Controller` for the USB controller of RP2040, to be copied: a buffer that both directions of endpoint 0 share, and one for
-//! endpoint 1. Written by the manual of RP2040 (section 4.1), for revision B2: before it EP_ABORT does not work (erratum E2). Not
-//! tried on a chip. The tests below play its registers.
+//! endpoint 1. Written by the manual of RP2040 (section 4.1). Not tried on a chip. The tests below play its registers.
 //!
 //! A SETUP packet or a reset leaves the buffers as they are. So the interrupt, [`interrupt`], takes them back at once, and
 //! `waiting` tells of it later. No loop can take the interrupt's place: it has some 3 µs, so keep it in RAM with what it calls.
 //! The chip keeps no data toggles either: the driver does. The manual doesn't say what becomes of an OUT packet that comes again;
 //! here it is acknowledged and dropped (USB 2.0 section 8.6.4).
-#![cfg_attr(not(test), no_std)]
+//!
+//! Errata, from memory: on B0 and B1 EP_ABORT does nothing (E2), so a packet that is on the wire while its buffer is taken back may
+//! still go out or come, and a report may come twice or be lost. They also may not leave a reset on a busy bus (E5), behind a hub,
+//! which nothing here mends. On each revision a bus error in place of an ACK may stop the controller (E15) until it is reset.
 
 use core::cell::Cell;
 use wuzhikar_device::{Buffers, Controller, Endpoint1, Endpoints, Input, Output, Report, UsbDevice, Waiting};
@@ -17,6 +19,9 @@ use wuzhikar_device::{Buffers, Controller, Endpoint1, Endpoints, Input, Output, 
 pub trait Registers {
     fn read(&self, place: usize) -> u32;
     fn write(&self, place: usize, word: u32);
+    fn write_byte(&self, place: usize, byte: u8);
+    /// The revision in CHIP_ID: 1 for B0 and B1, 2 for B2.
+    fn revision(&self) -> u32;
     /// Turns the interrupts of the processor off or on.
     fn interrupts(&self, on: bool);
     /// Waits for a cycle of the controller's clock of 48 MHz: 12 cycles of the processor, at up to 133 MHz.
@@ -34,6 +39,12 @@ const OUT_0: usize = 1;
 const IN_1: usize = 2;
 /// Where the packets of each buffer lie. Beside a packet of a read a conforming host sends none but an empty one.
 const PACKETS: [usize; 3] = [0x100, 0x100, 0x180];
+/// What the driver and its interrupt share, in a word that no buffer has.
+const NOTES: usize = 0xffc;
+/// A reset came that `waiting` did not tell.
+const WAS_RESET: u32 = 1;
+/// The chip has an EP_ABORT that works.
+const ABORTS: u32 = 2;
 
 // The registers.
 const ADDRESS: usize = 0x1_0000;
@@ -76,37 +87,45 @@ const WAKE: u32 = 1 << 12;
 const ON: u32 = 1 << 31 | 1 << 29 | 3 << 26 | 0x180;
 
 /// What the handler of USBCTRL_IRQ calls: takes back what a SETUP packet or a reset ends, before the token behind it can be on
-/// the bus (3 microseconds). `waiting` enables again what it has told. While a page is erased nothing runs that lies in the flash:
-/// a firmware puts this into RAM.
+/// the bus (3 microseconds). A SETUP packet stays in SIE_STATUS until `waiting` tells it, and a reset in a note: each further one
+/// comes here again. While a page is erased nothing runs that lies in the flash, so all of this is a part of the handler.
+#[inline(always)]
 pub fn interrupt(registers: &impl Registers) {
     let asked = registers.read(ASKED);
-    let mut enabled = registers.read(INTERRUPTS);
+    let notes = registers.read(NOTES);
     if asked & RESET_INTERRUPT != 0 {
         // A SETUP packet that stands here came before the reset, which lasts 10 ms.
-        registers.write(SIE_STATUS, SETUP);
+        registers.write(SIE_STATUS, BUS_RESET | SETUP);
+        registers.write(NOTES, notes | WAS_RESET);
         registers.write(ADDRESS, 0);
         registers.write(ENDPOINT_1, 0);
-        take_back(registers, &[IN_0, OUT_0, IN_1]);
+        take_back(registers, notes, 1 << IN_0 | 1 << OUT_0 | 1 << IN_1);
         registers.write(BUFFER_STATUS, 1 << IN_0 | 1 << OUT_0 | 1 << IN_1);
-        enabled = SETUP_INTERRUPT;
+        registers.write(INTERRUPTS, RESET_INTERRUPT | SETUP_INTERRUPT);
     } else if asked & SETUP_INTERRUPT != 0 {
-        take_back(registers, &[IN_0, OUT_0]);
-        enabled &= !SETUP_INTERRUPT;
+        take_back(registers, notes, 1 << IN_0 | 1 << OUT_0);
+        registers.write(INTERRUPTS, RESET_INTERRUPT);
     }
-    registers.write(INTERRUPTS, enabled);
 }
 
-/// Empties buffers, whose words keep the length of a packet that came. Interrupts are off.
-fn take_back(registers: &impl Registers, buffers: &[usize]) {
-    let bits = buffers.iter().fold(0, |bits, buffer| bits | 1 << buffer);
-    registers.write(ABORT, bits);
-    while registers.read(ABORT_DONE) & bits != bits {}
-    for buffer in buffers {
-        let word = registers.read(CONTROL + 4 * buffer);
-        registers.write(CONTROL + 4 * buffer, word & LENGTH);
+/// Empties buffers, whose words keep the length of a packet that came: their low byte, since no packet has more than 64 bytes.
+/// Interrupts are off. (An array of buffers would lie in flash.)
+#[inline(always)]
+fn take_back(registers: &impl Registers, notes: u32, bits: u32) {
+    let aborts = notes & ABORTS != 0;
+    if aborts {
+        registers.write(ABORT, bits);
+        while registers.read(ABORT_DONE) & bits != bits {}
     }
-    registers.write(ABORT_DONE, bits);
-    registers.write(ABORT, 0);
+    for buffer in IN_0..=IN_1 {
+        if bits >> buffer & 1 != 0 {
+            registers.write_byte(CONTROL + 4 * buffer + 1, 0);
+        }
+    }
+    if aborts {
+        registers.write(ABORT_DONE, bits);
+        registers.write(ABORT, 0);
+    }
 }
 
 /// The registers, and the data toggle of the next packet of each buffer.
@@ -121,6 +140,7 @@ impl<R: Registers> Rp2040<R> {
     pub fn start(registers: R) -> Rp2040<R> {
         // The packet memory has no reset: what endpoints were, and what stood in their buffers.
         (ENDPOINT_1..PACKETS[IN_0]).step_by(4).for_each(|place| registers.write(place, 0));
+        registers.write(NOTES, if registers.revision() >= 2 { ABORTS } else { 0 });
         // To the PHY; connected by software; power is there.
         registers.write(MUXING, 1 << 0 | 1 << 3);
         registers.write(POWER, 1 << 2 | 1 << 3);
@@ -164,12 +184,13 @@ impl<R: Registers> Rp2040Usb<'_, R> {
         }
     }
 
-    /// Does this with the interrupts off, unless one of these has come that `waiting` did not tell.
-    fn unless(&self, overtaken: u32, does: impl FnOnce(&R)) {
+    /// Does this with the interrupts off, unless a reset or one of these has come that `waiting` did not tell. It is given the notes.
+    fn unless(&self, overtaken: u32, does: impl FnOnce(&R, u32)) {
         let registers = &self.0.registers;
         registers.interrupts(false);
-        if registers.read(SIE_STATUS) & overtaken == 0 {
-            does(registers);
+        let notes = registers.read(NOTES);
+        if notes & WAS_RESET == 0 && registers.read(SIE_STATUS) & (BUS_RESET | overtaken) == 0 {
+            does(registers, notes);
         }
         registers.interrupts(true);
     }
@@ -177,14 +198,14 @@ impl<R: Registers> Rp2040Usb<'_, R> {
     /// Puts a packet into a buffer, or what it answers else, unless that is overtaken. The interrupts are off twice, for a short
     /// time: the other buffers stay open in it, also behind a SETUP packet.
     fn put(&self, buffer: usize, word: u32, packet: &[u8]) {
-        let overtaken = if buffer == IN_1 { BUS_RESET } else { BUS_RESET | SETUP };
-        self.unless(overtaken, |registers| take_back(registers, &[buffer]));
+        let overtaken = if buffer == IN_1 { 0 } else { SETUP };
+        self.unless(overtaken, |registers, notes| take_back(registers, notes, 1 << buffer));
         for (number, bytes) in packet.chunks(4).enumerate() {
             let word = bytes.iter().rev().fold(0, |word, byte| word << 8 | u32::from(*byte));
             self.0.registers.write(PACKETS[buffer] + 4 * number, word);
         }
         let word = word | if self.0.toggles[buffer].get() { DATA1 } else { 0 };
-        self.unless(overtaken, |registers| {
+        self.unless(overtaken, |registers, _| {
             registers.write(CONTROL + 4 * buffer, word & !AVAILABLE);
             if word & STALL != 0 {
                 let armed = registers.read(STALL_ARM);
@@ -225,23 +246,24 @@ impl<R: Registers> Controller for Rp2040Usb<'_, R> {
         registers.interrupts(false);
         interrupt(registers);
         registers.interrupts(true);
-        let status = registers.read(SIE_STATUS);
+        let came = registers.read(SIE_STATUS) & SETUP != 0;
+        let was_reset = registers.read(NOTES) & WAS_RESET != 0;
         // Behind a SETUP packet or a reset the buffers are empty: what they are done with came before.
         if self.take(OUT_0) {
             let length = registers.read(CONTROL + 4 * OUT_0) & LENGTH;
             met.out = Some(self.bytes::<8>(PACKETS[OUT_0])[..length.min(8) as usize].iter().copied().collect());
         }
         met.taken = self.take(IN_0);
-        if status & BUS_RESET != 0 {
+        if was_reset {
             met = Waiting { reset: true, setup: None, out: None, taken: false };
-            registers.write(SIE_STATUS, BUS_RESET);
+            registers.interrupts(false);
+            registers.write(NOTES, registers.read(NOTES) & !WAS_RESET);
+            registers.interrupts(true);
         }
-        if status & SETUP != 0 {
-            // Where another comes meanwhile it is read once more.
-            while registers.read(SIE_STATUS) & SETUP != 0 {
-                registers.write(SIE_STATUS, SETUP);
-                met.setup = Some(self.bytes(SETUP_PACKET));
-            }
+        // Where another comes meanwhile it is read once more, and where a reset comes it is gone.
+        while came && registers.read(SIE_STATUS) & SETUP != 0 {
+            registers.write(SIE_STATUS, SETUP);
+            met.setup = Some(self.bytes(SETUP_PACKET));
             self.0.toggles[..2].iter().for_each(|toggle| toggle.set(true));
         }
         registers.write(INTERRUPTS, RESET_INTERRUPT | SETUP_INTERRUPT);
@@ -269,7 +291,7 @@ impl<R: Registers> Controller for Rp2040Usb<'_, R> {
     }
 
     fn set_address(&mut self, address: u8) {
-        self.unless(BUS_RESET, |registers| registers.write(ADDRESS, address.into()));
+        self.unless(0, |registers, _| registers.write(ADDRESS, address.into()));
     }
 }
 
@@ -285,17 +307,17 @@ impl<R: Registers> Buffers for Rp2040Usb<'_, R> {
     fn begin_anew(&mut self, state: Endpoint1) {
         self.give_up();
         self.0.toggles[IN_1].set(false);
-        self.unless(BUS_RESET, |registers| {
+        self.unless(0, |registers, _| {
             registers.write(CONTROL + 4 * IN_1, if state == Endpoint1::Halted { STALL } else { 0 });
             registers.write(ENDPOINT_1, if state == Endpoint1::Off { 0 } else { ON });
         });
     }
 
     fn give_up(&mut self) {
-        self.unless(BUS_RESET, |registers| {
+        self.unless(0, |registers, notes| {
             // A halt stays, and has no packet.
             if registers.read(CONTROL + 4 * IN_1) & STALL == 0 {
-                take_back(registers, &[IN_1]);
+                take_back(registers, notes, 1 << IN_1);
             }
         });
         self.take(IN_1);
@@ -314,9 +336,12 @@ impl<R: Registers> Buffers for Rp2040Usb<'_, R> {
     }
 }
 
-#[cfg(target_arch = "arm")]
+#[cfg(target_os = "none")]
 #[path = "rp2040_usb/chip.rs"]
 pub mod chip;
+#[cfg(test)]
+#[path = "rp2040_usb/tests/played.rs"]
+pub mod played;
 #[cfg(test)]
 #[path = "rp2040_usb/tests.rs"]
 mod tests;

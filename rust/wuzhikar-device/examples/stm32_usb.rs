@@ -3,7 +3,6 @@
 //! A `Controller` for the USB full-speed device controller of ST's chips, to be copied: one buffer for each direction of
 //! endpoint 0, and one for endpoint 1. Written by the manuals of STM32F0 and STM32G0, whose names differ (EPnR, CHEPnR);
 //! not tried on a chip. The tests below play its registers.
-#![cfg_attr(not(test), no_std)]
 
 use arrayvec::ArrayVec;
 use core::cell::{RefCell, RefMut};

@@ -2,7 +2,7 @@
 
 //! The chip itself.
 
-use crate::{Registers, Rp2040, interrupt};
+use super::{Registers, Rp2040, interrupt};
 use core::arch::asm;
 use core::ptr::{read_volatile, write_volatile};
 
@@ -17,6 +17,9 @@ const RESET: *mut u32 = 0x4000_e000 as *mut u32;
 const UNRESET: *mut u32 = 0x4000_f000 as *mut u32;
 const RESET_DONE: *const u32 = 0x4000_c008 as *const u32;
 const USBCTRL: u32 = 1 << 24;
+
+/// CHIP_ID, from memory.
+const CHIP_ID: *const u32 = 0x4000_0000 as *const u32;
 
 /// NVIC_ISER, and the controller's interrupt, 5.
 const ENABLE: *mut u32 = 0xe000_e100 as *mut u32;
@@ -40,21 +43,35 @@ pub fn start() -> Rp2040<Chip> {
     rp2040
 }
 
-/// The handler, by the name that the crate `rp2040-pac` gives it.
+/// The handler, by the name that the crate `rp2040-pac` gives it. The linker script puts `.ram` into RAM.
 #[unsafe(no_mangle)]
+#[unsafe(link_section = ".ram")]
 pub extern "C" fn USBCTRL_IRQ() {
     interrupt(&Chip);
 }
 
 impl Registers for Chip {
+    #[inline(always)]
     fn read(&self, place: usize) -> u32 {
         // SAFETY: the driver asks for words of the controller alone, which are there once it is out of its reset.
         unsafe { read_volatile((USB + place) as *const u32) }
     }
 
+    #[inline(always)]
     fn write(&self, place: usize, word: u32) {
         // SAFETY: as above.
         unsafe { write_volatile((USB + place) as *mut u32, word) }
+    }
+
+    #[inline(always)]
+    fn write_byte(&self, place: usize, byte: u8) {
+        // SAFETY: as above; the packet memory takes bytes.
+        unsafe { write_volatile((USB + place) as *mut u8, byte) }
+    }
+
+    fn revision(&self) -> u32 {
+        // SAFETY: a register that is read, of a block that is out of its reset.
+        unsafe { read_volatile(CHIP_ID) >> 28 }
     }
 
     fn interrupts(&self, on: bool) {

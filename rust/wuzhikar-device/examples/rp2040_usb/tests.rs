@@ -1,244 +1,28 @@
-//! The driver over registers that are played: the chip counts no toggles and leaves its buffers at a SETUP packet and at a reset,
-//! and at any access something may come on the bus, behind which the interrupt runs.
+//! The driver over registers that are played.
 
-#[path = "../../../tests/src/other.rs"]
-mod other;
-
+use super::played::{Played, Wired, interrupts_run};
 use super::*;
-use other::Other;
 use std::cell::RefCell;
-use std::collections::HashMap;
 use std::convert::Infallible;
-use wuzhikar_device::testing::{self, Answer, Firmware, OnWire, UsbOf, Wire};
+use wuzhikar::Standard;
+use wuzhikar_device::testing::{self, Firmware, OnWire, UsbOf, Wire};
 use wuzhikar_device::{Identity, PacketSize, Product};
 use wuzhikar_log::{FlashDriver, PairedFlash, UnitFlash};
 
-#[derive(Debug, Default)]
-struct Played {
-    words: HashMap<usize, u32>,
-    /// For how long the driver waited.
-    waited: u32,
-    /// A cycle of the controller went by since a control word was written.
-    is_idle: bool,
-    woken: bool,
-    /// The state of suspend has changed, which a write to SUSPENDED clears; the bit itself says how it is.
-    is_changed: bool,
-    /// The accesses since a SETUP packet came.
-    since: usize,
+fn quiet(revision: u32) -> Wired {
+    RefCell::new(OnWire::quiet(Played::of(revision)))
 }
 
-impl Played {
-    fn at(&mut self, place: usize) -> &mut u32 {
-        self.words.entry(place).or_default()
-    }
-
-    fn word(&self, place: usize) -> u32 {
-        self.words.get(&place).copied().unwrap_or(0)
-    }
-
-    fn control(&self, buffer: usize) -> u32 {
-        self.word(CONTROL + 4 * buffer)
-    }
-
-    fn is_aborted(&self, buffer: usize) -> bool {
-        self.word(ABORT) & 1 << buffer != 0
-    }
-
-    fn is_stalled(&self, buffer: usize) -> bool {
-        self.control(buffer) & STALL != 0 && (buffer == IN_1 || self.word(STALL_ARM) & 1 << buffer != 0)
-    }
-
-    /// What of SIE_STATUS and of the buffers is asked for by interrupts.
-    fn raw(&self) -> u32 {
-        let of = |bit, interrupt| if self.word(SIE_STATUS) & bit != 0 { interrupt } else { 0 };
-        of(BUS_RESET, RESET_INTERRUPT) | of(SETUP, SETUP_INTERRUPT) | if self.is_changed { SUSPENDED_INTERRUPT } else { 0 }
-    }
-
-    fn asked(&self) -> u32 {
-        self.raw() & self.word(INTERRUPTS)
-    }
-}
-
-impl Wire for Played {
-    fn setup(&mut self, packet: [u8; 8]) -> bool {
-        for (number, bytes) in packet.chunks(4).enumerate() {
-            *self.at(SETUP_PACKET + 4 * number) = u32::from_le_bytes(bytes.try_into().unwrap());
-        }
-        *self.at(SIE_STATUS) |= SETUP;
-        *self.at(STALL_ARM) = 0;
-        self.since = 0;
-        true
-    }
-
-    fn out(&mut self, toggle: bool, packet: &[u8]) -> Answer {
-        let word = self.control(OUT_0);
-        if self.is_aborted(OUT_0) {
-            return Answer::Nak;
-        }
-        if self.is_stalled(OUT_0) {
-            return Answer::Stall;
-        }
-        if word & (AVAILABLE | FULL) != AVAILABLE {
-            return Answer::Nak;
-        }
-        if toggle == (word & DATA1 != 0) {
-            for (number, bytes) in packet.chunks(4).enumerate() {
-                *self.at(PACKETS[OUT_0] + 4 * number) = bytes.iter().rev().fold(0, |word, byte| word << 8 | u32::from(*byte));
-            }
-            *self.at(CONTROL + 4 * OUT_0) = FULL | word & (LAST | DATA1) | packet.len() as u32;
-            *self.at(BUFFER_STATUS) |= 1 << OUT_0;
-        }
-        Answer::Ack
-    }
-
-    fn input(&mut self, endpoint: usize) -> Answer {
-        let buffer = 2 * endpoint;
-        let word = self.control(buffer);
-        if buffer == IN_1 && self.word(ENDPOINT_1) != ON {
-            return Answer::Nothing;
-        }
-        if self.is_aborted(buffer) {
-            return Answer::Nak;
-        }
-        if self.is_stalled(buffer) {
-            return Answer::Stall;
-        }
-        if word & (AVAILABLE | FULL) != AVAILABLE | FULL {
-            return Answer::Nak;
-        }
-        let byte = |number: usize| (self.word(PACKETS[buffer] + number / 4 * 4) >> (8 * (number % 4))) as u8;
-        Answer::Packet(word & DATA1 != 0, (0..(word & LENGTH) as usize).map(byte).collect())
-    }
-
-    fn acknowledged(&mut self, endpoint: usize) {
-        let buffer = 2 * endpoint;
-        *self.at(CONTROL + 4 * buffer) &= LENGTH | LAST | DATA1;
-        *self.at(BUFFER_STATUS) |= 1 << buffer;
-    }
-
-    fn reset(&mut self) {
-        *self.at(SIE_STATUS) |= BUS_RESET;
-    }
-
-    fn suspend(&mut self) {
-        *self.at(SIE_STATUS) |= SUSPENDED;
-        self.is_changed = true;
-    }
-
-    fn resume(&mut self) {
-        *self.at(SIE_STATUS) &= !SUSPENDED;
-        *self.at(SIE_STATUS) |= RESUMED;
-        self.is_changed = true;
-    }
-
-    fn address(&self) -> u8 {
-        self.word(ADDRESS) as u8
-    }
-
-    fn wakes(&mut self) -> bool {
-        std::mem::take(&mut self.woken)
-    }
-}
-
-/// The first access behind a SETUP packet at which the token behind that may be on the bus, with a processor of 48 MHz.
-const TOKEN: usize = 12;
-
-impl Played {
-    /// An access goes by: such a token is answered by NAK.
-    fn sees_tokens(&mut self) {
-        self.since += 1;
-        if self.since >= TOKEN && self.word(SIE_STATUS) & SETUP != 0 {
-            for buffer in [IN_0, OUT_0] {
-                let word = self.control(buffer);
-                let answers = word & AVAILABLE != 0 || self.is_stalled(buffer);
-                assert!(self.is_aborted(buffer) || !answers, "{word:x} behind a SETUP packet");
-            }
-        }
-    }
-}
-
-/// The registers beside the host, whom the interrupt follows.
-type Wired = testing::Wired<Played>;
-
-/// Something may come, and the interrupt runs where it is asked for.
-fn access(wire: &Wired) {
-    wire.borrow_mut().access();
-    interrupts_run(wire);
-}
-
-fn interrupts_run(wire: &Wired) {
-    let runs = !wire.borrow().is_masked() && wire.borrow().registers.asked() != 0;
-    if runs {
-        wire.borrow_mut().begin_handler();
-        interrupt(&wire);
-        wire.borrow_mut().interrupts(true);
-        interrupts_run(wire);
-    }
-}
-
-impl Registers for &Wired {
-    fn read(&self, place: usize) -> u32 {
-        access(self);
-        self.borrow_mut().registers.sees_tokens();
-        let played = &self.borrow().registers;
-        match place {
-            RAW_INTERRUPTS => played.raw(),
-            ASKED => played.asked(),
-            // Nothing is on the bus between two accesses.
-            ABORT_DONE => played.word(ABORT),
-            _ => played.word(place),
-        }
-    }
-
-    fn write(&self, place: usize, word: u32) {
-        access(self);
-        let played = &mut self.borrow_mut().registers;
-        played.sees_tokens();
-        match place {
-            SIE_STATUS => {
-                played.is_changed &= word & SUSPENDED == 0;
-                *played.at(place) &= !word | SUSPENDED;
-            }
-            BUFFER_STATUS => *played.at(place) &= !word,
-            SIE_CONTROL => {
-                played.woken |= word & WAKE != 0 && played.waited >= 2;
-                *played.at(place) = word & !WAKE;
-            }
-            _ if (CONTROL..CONTROL + 12).contains(&place) => {
-                // All but AVAILABLE stands before it, for long enough.
-                assert!(word & AVAILABLE == 0 || played.is_idle && played.word(place) == word & !AVAILABLE, "{place:x}");
-                played.is_idle = false;
-                *played.at(place) = word;
-            }
-            _ => *played.at(place) = word,
-        }
-    }
-
-    fn interrupts(&self, on: bool) {
-        self.borrow_mut().interrupts(on);
-        interrupts_run(self);
-    }
-
-    fn pause(&self) {
-        self.borrow_mut().registers.is_idle = true;
-    }
-
-    fn wait(&self, milliseconds: u32) {
-        self.borrow_mut().registers.waited = milliseconds;
-    }
-}
-
-fn quiet() -> Wired {
-    RefCell::new(OnWire::quiet(Played::default()))
-}
-
+/// Resets and SETUP packets in each order, of which the loop sees nothing before the last: what is told is what stands at the end.
 #[test]
 fn a_setup_packet_before_a_reset_is_gone() {
-    for is_behind in [false, true] {
-        let wire = quiet();
+    for (revision, length, resets) in
+        (1..3).flat_map(|one| (1..5).flat_map(move |n| (0..1 << n).map(move |bits: u32| (one, n, bits))))
+    {
+        let wire = quiet(revision);
         let rp2040 = Rp2040::start(&wire);
-        for resets in [is_behind, !is_behind] {
-            if resets {
+        for place in 0..length {
+            if resets >> place & 1 != 0 {
                 wire.borrow_mut().registers.reset();
             } else {
                 wire.borrow_mut().registers.setup([0x80, 0, 0, 0, 0, 0, 2, 0]);
@@ -246,16 +30,19 @@ fn a_setup_packet_before_a_reset_is_gone() {
             interrupts_run(&wire);
         }
         let met = Rp2040Usb(&rp2040).waiting();
-        assert_eq!((met.reset, met.setup.is_some()), (true, is_behind));
+        let is_last = resets >> (length - 1) & 1 == 0;
+        assert_eq!((met.reset, met.setup.is_some()), (resets != 0, is_last), "{resets:b} of {length}, revision {revision}");
+        assert_eq!(Rp2040Usb(&rp2040).waiting().setup, None);
     }
 }
 
 #[test]
 fn what_the_packet_memory_held_is_gone_at_the_start() {
-    let wire = quiet();
+    let wire = quiet(2);
     (ENDPOINT_1..0x100).step_by(4).for_each(|place| *wire.borrow_mut().registers.at(place) = u32::MAX);
-    Rp2040::start(&wire);
+    let rp2040 = Rp2040::start(&wire);
     assert!((ENDPOINT_1..0x100).step_by(4).all(|place| wire.borrow().registers.word(place) == 0));
+    assert!(!Rp2040Usb(&rp2040).waiting().reset);
 }
 
 /// Reports of two packets, and a keyboard that may wake its host.
@@ -291,22 +78,22 @@ impl FlashDriver for Corrected {
     }
 }
 
-/// What a maker ships: a layout and a flash driver of one's own.
-struct Shipped;
+/// What a maker ships, with a flash driver of one's own, on a chip of a revision.
+struct Shipped<const REVISION: u32>;
 
-impl Firmware for Shipped {
+impl<const REVISION: u32> Firmware for Shipped<REVISION> {
     type Registers = Played;
     type Driver = Rp2040Usb<'static, &'static Wired>;
     type Cells = RefCell<Vec<u8>>;
     type Flash = PairedFlash<UnitFlash<Corrected>>;
-    type Layout = Other;
+    type Layout = Standard;
 
     fn product() -> &'static Product<'static> {
         &PRODUCT
     }
 
     fn registers() -> Played {
-        Played::default()
+        Played::of(REVISION)
     }
 
     fn driver(wire: &'static Wired) -> Self::Driver {
@@ -328,5 +115,10 @@ impl Firmware for Shipped {
 
 #[test]
 fn a_host_finds_no_fault() {
-    testing::check::<Shipped>(2000);
+    testing::check::<Shipped<2>>(2000);
+}
+
+#[test]
+fn a_host_finds_no_fault_on_b1() {
+    testing::check::<Shipped<1>>(1000);
 }

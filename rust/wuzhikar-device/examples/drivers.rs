@@ -1,0 +1,7 @@
+// SPDX-License-Identifier: MIT OR Apache-2.0
+
+//! Drivers of USB controllers. Each is a module to be copied, with the folder of its name.
+#![cfg_attr(not(test), no_std)]
+
+pub mod rp2040_usb;
+pub mod stm32_usb;
