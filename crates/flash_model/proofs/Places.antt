@@ -38,20 +38,6 @@ same_slot old new p s e h =
     same_number_lists (slot_at new p s) (slot_at old p s) (omega arith)
     (λ k l. let m : k < 8 = omega arith in slot_byte new p s k m ∙ h k m ∙ sym (slot_byte old p s k m))
 
--- a page past the last one has no slots
-pub slot_at-past : (image : List ℕ) (p s : ℕ) → IsImage image → page_count image ≤ p → slot_at image p s ≡ []
-slot_at-past image p s i l =
-    let r = slot_room image p s in
-    let w = i.whole in
-    same_number_lists (slot_at image p s) [] (omega arith) (λ k m. absurd (omega arith))
-
--- an operation on one slot leaves the other slots of its page, and the other pages
-pub other_slot : (old : List ℕ) (page slot : ℕ) (new : List ℕ) → OneSlot old page slot new → (s : ℕ) → s < 512 → s ≢ slot → slot_at new page s ≡ slot_at old page s
-other_slot old page slot new o s l apart = o.others page s l (λ _ e. apart e)
-
-pub other_page : (old : List ℕ) (page slot : ℕ) (new : List ℕ) → OneSlot old page slot new → (p s : ℕ) → s < 512 → p ≢ page → slot_at new p s ≡ slot_at old p s
-other_page old page slot new o p s l apart = o.others p s l (λ e _. apart e)
-
 pub page_count-one_slot : (old : List ℕ) (page slot : ℕ) (new : List ℕ) → OneSlot old page slot new → page_count new ≡ page_count old
 page_count-one_slot old page slot new o = ap (λ n. n / 4096) o.same_length
 
@@ -76,20 +62,6 @@ same_images old new e h = same_number_lists new old e (λ k l. same_byte old new
 -- a blank image
 pub page_count-blank : (n : ℕ) → page_count (replicate (4096 * n) 255) ≡ n
 page_count-blank n = rw (length-replicate {A = ℕ} (4096 * n) 255) (omega arith)
-
-pub blank_image : (n : ℕ) → 2 ≤ n → n ≤ 8 → IsImage (replicate (4096 * n) 255)
-blank_image n l m =
-    let c = page_count-blank n in
-    let e : length (replicate {A = ℕ} (4096 * n) 255) ≡ 4096 * n = length-replicate {A = ℕ} (4096 * n) 255 in
-    record {
-      whole = e ∙ ap (λ k. 4096 * k) (sym c);
-      least = rw c l;
-      most = rw c m;
-      bytes = λ k. elim (cases_lt k (4096 * n)) [
-        | inl b ↦ rw (get_or-replicate {A = ℕ} (4096 * n) k 255 0 b) (omega arith)
-        | inr b ↦ rw (get_or_past {X = ℕ} (replicate {A = ℕ} (4096 * n) 255) k 0 (rw e b)) (omega arith)
-      ];
-    }
 
 pub slot_at-blank : (n p s : ℕ) → p < n → s < 512 → slot_at (replicate (4096 * n) 255) p s ≡ replicate 8 255
 slot_at-blank n p s l m =

@@ -1,5 +1,5 @@
 -- Reading the keys of a scan, word by word.
-use Rattle.std.proofs.Common.{◌≡◌, ◌==◌, ◌||◌, ℕ, ◌<◌, Bool, true, false, inl, inr, map, List, [], ◌∷◌, ◌++◌, refl, sym, ap, ◌∙◌, append_assoc, append-nil, Bor}
+use Rattle.std.proofs.Common.{◌≡◌, ◌==◌, ◌||◌, ℕ, ◌<◌, Bool, true, false, inl, inr, map, List, [], ◌∷◌, ◌++◌, refl, sym, ap, ◌∙◌, append_assoc, Bor}
 use Rattle.std.proofs.lemmas.List.{map-append}
 use Rattle.std.proofs.lemmas.List.Elements.{All-nil, All-cons, All-head, All-tail, All-append}
 use Rattle.std.proofs.lemmas.List.Folds.{list_any-append}
@@ -7,7 +7,7 @@ use Rattle.std.specs.List.{All}
 use Rattle.std.specs.Str.Parse.{digits_value}
 use Rattle.debounce.specs.Scans.{has}
 use Rattle.debounce.specs.declared.Scan.{Scan}
-use Rattle.script.specs.Keys.{is_named, WritesScan}
+use Rattle.script.specs.Keys.{is_named}
 use Rattle.script.specs.Numbers.{IsNumberBelow, WritesNumber}
 use Rattle.script.specs.Statements.{FirstBad, key_kinds}
 use Rattle.script.specs.declared.fault.LineFault.TheVariants.{BadNumber}
@@ -52,12 +52,6 @@ named_more all before left after word scan next number h step writes small with 
       exactly = λ key l. with key l ∙ ap (λ b. (key == number) || b) (h.exactly key l)
           ∙ ap (λ n. (key == n) || is_named (map (λ x. x.now) before) key) (sym value) ∙ sym (named_by (map (λ x. x.now) before) word.now key);
     }
-
--- no word is left
-pub named_all : (all before left : List (List ℕ)) (scan : Scan) → NamedSoFar all before left scan → left ≡ [] → WritesScan all scan
-named_all all before left scan h none =
-    let same : all ≡ before = h.cut ∙ ap (λ (xs : List (List ℕ)). before ++ xs) none ∙ append-nil before in
-    rw same record { keys = h.keys; exactly = h.exactly }
 
 -- a word that names no key
 pub named_bad : (all before left after : List (List ℕ)) (word : List ℕ) (scan : Scan) → NamedSoFar all before left scan → left ≡ word ∷ after

@@ -1,5 +1,5 @@
 -- Words of digits.
-use Rattle.std.proofs.Common.{◌≡◌, ℕ, ◌*◌, inl, inr, List, length, sym, ◌∙◌, arith, Result, Ok, Err}
+use Rattle.std.proofs.Common.{◌≡◌, ℕ, ◌*◌, inl, inr, List, length, ◌∙◌, arith, Result, Ok, Err}
 use Rattle.std.proofs.lemmas.Bool.{cases_lt}
 use Rattle.std.proofs.lemmas.List.{get_or_past}
 use Rattle.std.proofs.lemmas.Str.{IsUtf8-from_ascii}
@@ -8,7 +8,7 @@ use Rattle.std.specs.Prelude.{IsOk, IsUtf8, MatchResult}
 use Rattle.std.specs.Str.Parse.{AllDigits}
 use Rattle.hex.specs.Hex.{decode_sized, decode_of}
 use Rattle.hex.specs.declared.error.FromHexError.{FromHexError}
-use Rattle.hex.proofs.HexLemmas.{decode_of-ok, IsOk-decode_sized, IsOk-written, decode_sized-ok, decode_sized-twice}
+use Rattle.hex.proofs.HexLemmas.{decode_of-ok, IsOk-decode_sized, IsOk-written}
 use Rattle.script.specs.Numbers.{IsHexOf}
 use Rattle.std.proofs.Common.{◌<◌, ◌≤◌}
 
@@ -35,10 +35,6 @@ refused_slice count word out e r is value same least most h =
     let ok : IsOk r = (IsOk-written (decode_sized word count) r out value).1 ((IsOk-decode_sized word count).1 (same, h.digits)) in
     let wrong = rw is at ok in
     cc wrong
-
--- what decodes into room for so many bytes decodes to them
-pub decoded : (count : ℕ) (word bytes : List ℕ) → decode_sized word count ≡ Ok bytes → decode_of word ≡ Ok bytes
-decoded count word bytes is = sym (decode_sized-twice word count (decode_sized-ok word count bytes is)) ∙ is
 
 -- what writes some bytes is hex
 pub hex_of : (word bytes : List ℕ) (most : ℕ) → decode_of word ≡ Ok bytes → 0 < length bytes → length bytes ≤ most → IsHexOf 1 most word
