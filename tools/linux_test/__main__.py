@@ -2,8 +2,9 @@
 
 One Linux boots with a keyboard for each packet size of endpoint 1, by USB/IP, and one behind the machine's own controller, by USB
 redirection. The lists of tests/real_host/linux are followed on each. Then it gets devices of real report descriptors, by uhid,
-and what it makes of them and of their reports is compared with what `kbsim` says (values.py). SeaBIOS is started once for each size and controller, the
-shell of UEFI once with a keyboard of each size.
+and what it makes of them and of their reports is compared with what `kbsim` says (values.py). Another Linux has the keyboard as a
+function of its own (FunctionFS on dummy_hcd), from Rust and from C: it keeps no endpoint 0 there, and its process is killed. SeaBIOS
+is started once for each size and controller, the shell of UEFI once with a keyboard of each size.
 
 It needs rustc, cargo, the crate arrayvec, gcc with a static libc, qemu-system-x86_64, busybox-static and kmod; OVMF for UEFI, and
 the crates of rust/ for the programs keymap and kbsim. What is not there is skipped by name. The variable LINUX names a folder with
@@ -29,6 +30,7 @@ from values import Values
 SIZES = [8, 16, 32, 64]
 WIRE = 16  # the packet size of the keyboard behind the machine's own controller
 REFUSED = 16  # SeaBIOS takes no more bytes in a packet
+MACHINES = ["linux", "function", "bios", "uefi"]
 ALLOWED = 120  # seconds for all machines on two processors that do nothing else
 
 
@@ -91,6 +93,24 @@ class Test:
             differing += self.values.differences(found.get(("values", "uhid"), []))
         self.tell(f"Linux {release}, packets of {', '.join(map(str, self.sizes))} bytes", begun, differing)
 
+    def function(self):
+        """A stock Linux whose own function the keyboard is, from Rust and from C."""
+        folder = f"{self.work}/function"
+        os.mkdir(folder)
+        python = parts.of_python(folder)
+        if not python:
+            print(f"linux-test: skipped: the package of Python on hidraw, no {parts.PYTHON} (Debian: python3)")
+        programs = {**self.programs, "function_in_c": parts.function_in_c(folder), **python}
+        names = [*lists.OF_FUNCTION, *(lists.OF_PYTHON if python else [])]
+        try:
+            booted = machines.boot(folder, programs, b"", [*guest.MODULES, *guest.OF_FUNCTION])
+        except (parts.Missing, guest.Lacking) as error:
+            print(f"linux-test: skipped: the keyboard as a function of Linux: {error}")
+            return
+        begun = time.monotonic()
+        sizes = {"real_host": 16, "function_in_c": 32}
+        self.tell(f"Linux {booted[2]}, the keyboard as its function", begun, machines.function(booted, sizes, names))
+
     def bios(self):
         """SeaBIOS, once for each controller and size."""
         begun, differing = time.monotonic(), []
@@ -130,7 +150,7 @@ def main():
     words = argparse.ArgumentParser(prog="linux-test", description=__doc__, formatter_class=argparse.RawDescriptionHelpFormatter)
     words.add_argument("sizes", metavar="SIZE", nargs="*", type=int, help="packet sizes of endpoint 1: 8 16 32 64 (all of them)")
     words.add_argument("--shell", action="store_true", help="gives a shell in that Linux, with the keyboard attached")
-    words.add_argument("--only", choices=["linux", "bios", "uefi"], help="starts this machine alone")
+    words.add_argument("--only", choices=MACHINES, help="starts this machine alone")
     given = words.parse_args()
     sizes = given.sizes or ([WIRE] if given.shell else SIZES)
     if not set(sizes) <= set(SIZES):
@@ -141,7 +161,7 @@ def main():
             test = Test(work, sizes)
             if given.shell:
                 sys.exit(shell(test, sizes[0]))
-            test.run([given.only] if given.only else ["linux", "bios", "uefi"])
+            test.run([given.only] if given.only else MACHINES)
         except parts.Missing as error:
             print(f"linux-test: skipped: {error}")
             return

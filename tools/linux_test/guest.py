@@ -9,6 +9,9 @@ import subprocess
 
 FILES = f"{os.path.dirname(os.path.dirname(os.path.dirname(os.path.abspath(__file__))))}/tests/real_host/linux"
 MODULES = ["evdev", "usbhid", "hid-generic", "vhci-hcd", "xhci-pci", "uhid"]
+# Those of a keyboard that is a function of this Linux, and what one of them is given.
+OF_FUNCTION = ["dummy-hcd", "usb-f-fs"]
+GIVEN = {"dummy_hcd.ko": " is_high_speed=0"}
 PAGE, SLOTS, LAYERS, KEYS = 4096, 512, 4, 96
 
 
@@ -39,22 +42,29 @@ def read(path):
         return file.read()
 
 
-def modules(tree, release, names=MODULES):
+class Lacking(Exception):
+    """The kernel has no such module."""
+
+
+def modules(tree, release, names):
     """The paths of some of the kernel's modules in a tree, each behind those that it needs."""
     if not os.path.exists(f"{tree}/lib/modules/{release}/modules.dep"):
         subprocess.run(["depmod", "-b", tree, release], check=True)
-    command = ["modprobe", "-d", tree, "-S", release, "--show-depends"]
-    told = "".join(subprocess.run([*command, name], check=True, stdout=subprocess.PIPE, text=True).stdout for name in names)
-    paths = [line.split()[1] for line in told.splitlines() if line.startswith("insmod ")]
+    paths = []
+    for name in names:
+        told = subprocess.run(["modprobe", "-d", tree, "-S", release, "--show-depends", name], stdout=subprocess.PIPE, stderr=subprocess.DEVNULL, text=True)
+        if told.returncode != 0:
+            raise Lacking(f"no module {name} in {tree}/lib/modules/{release}")
+        paths += [line.split()[1] for line in told.stdout.splitlines() if line.startswith("insmod ")]
     return list(dict.fromkeys(paths))
 
 
-def disk(tree, release, programs, reports):
+def disk(tree, release, programs, reports, names=MODULES):
     """The RAM disk: busybox, modules, the files of tests/real_host/linux, programs by their names, and the reports for uhid."""
-    paths = modules(tree, release)
+    paths = modules(tree, release, names)
     files = {f"modules.d/{os.path.basename(path)}": read(path) for path in paths}
-    files["modules"] = "".join(f"/modules.d/{os.path.basename(path)}\n" for path in paths).encode()
-    files.update({name: read(f"{FILES}/{name}") for name in ("init", "commands")})
+    files["modules"] = "".join(f"/modules.d/{name}{GIVEN.get(name, '')}\n" for name in map(os.path.basename, paths)).encode()
+    files.update({name: read(f"{FILES}/{name}") for name in ("init", "commands", "live.py")})
     files.update({f"lists/{name}": read(f"{FILES}/lists/{name}") for name in os.listdir(f"{FILES}/lists")})
     files.update({name: read(path) for name, path in programs.items()})
     files.update({"bin/busybox": read("/bin/busybox"), "bin/sh": read("/bin/busybox"), "full.image": full_image()})

@@ -7,6 +7,8 @@ from guest import FILES
 
 EVERY = ["typing", "keymap", "keymap_file", "cuts", "requests", "boot"]
 ALONE = ["asleep"]
+OF_FUNCTION = ["typing", "boot", "function"]
+OF_PYTHON = ["live"]
 
 
 def followed(programs):

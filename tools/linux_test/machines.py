@@ -20,6 +20,7 @@ SECTOR = bytes.fromhex(
 ) + b"ready\r\n\0"
 CONTROLLERS = {"xHCI": "qemu-xhci", "UHCI": "piix3-usb-uhci"}
 ENTER = "keys 36\nkeys\n"
+WORDS = "console=ttyS0 quiet panic=-1 i8042.nokbd i8042.noaux suspend.pm_test_delay=1 nowatchdog no_timer_check"
 
 
 def qemu(*words, line="stdio"):
@@ -63,27 +64,30 @@ class Keyboard(NamedTuple):
                 yield theirs
 
 
-def boot(work, programs, reports):
-    """Puts the kernel and the RAM disk of the guest into a folder: their paths, and the release."""
+def boot(work, programs, reports, names=guest.MODULES):
+    """Puts the kernel and the RAM disk of the guest, with these modules, into a folder: their paths, and the release."""
     tree, release = parts.linux()
     paths = f"{work}/kernel", f"{work}/disk.cpio.gz"
     kernel = guest.unpacked(guest.read(f"{tree}/boot/vmlinuz-{release}"))
-    for path, content in zip(paths, (kernel, guest.disk(tree, release, programs, reports))):
+    for path, content in zip(paths, (kernel, guest.disk(tree, release, programs, reports, names))):
         with open(path, "wb") as file:
             file.write(content)
     return *paths, release
 
 
+def of(booted, words):
+    """The words of QEMU for a Linux that boots with these words."""
+    return ["-kernel", booted[0], "-initrd", booted[1], "-append", f"{WORDS} {words}"]
+
+
 def linux(work, keyboard, booted, words):
     """What a stock Linux says that boots with these words, with a keyboard behind its own controller, whose hands are at the second
     serial line."""
-    words = f"console=ttyS0 quiet panic=-1 i8042.nokbd i8042.noaux suspend.pm_test_delay=1 nowatchdog no_timer_check wire={keyboard.serial} {words}"
     path, image = f"{work}/{keyboard.serial}", f"{work}/{keyboard.serial}.image"
     with open(image, "wb") as file:
         file.write(guest.full_image())
     with keyboard.on_line(path, image) as line:
-        command = qemu("-kernel", booted[0], "-initrd", booted[1], "-append", words)
-        command += ["-chardev", f"socket,id=hands,fd={line.fileno()}", "-serial", "chardev:hands"]
+        command = qemu(*of(booted, f"wire={keyboard.serial} {words}"), "-chardev", f"socket,id=hands,fd={line.fileno()}", "-serial", "chardev:hands")
         with running([*command, "-device", "qemu-xhci,id=usb", *behind(0, path)], (line.fileno(),)) as machine:
             machine.until("--- off")
             return machine.text()
@@ -98,6 +102,18 @@ def follow(work, keyboard, booted, names, words="", attached=()):
         return {}, [str(error), *error.said.splitlines()[-8:]]
     wanted = [*attached, *((name, keyboard.serial, keyboard.size) for name in names + lists.ALONE)]
     return found, [line for one in wanted for line in lists.compared(*one, found)]
+
+
+def function(booted, sizes, names):
+    """Follows lists on keyboards that are a function of the Linux that is their host, each by a program whose name is its serial
+    number, with packets of this size: where what was said is otherwise."""
+    try:
+        with running(qemu(*of(booted, f"function={','.join(sizes)} lists={','.join(names)}"))) as machine:
+            machine.until("--- off")
+            found, _ = lists.sections(machine.text())
+    except Silent as error:
+        return [str(error), *error.said.splitlines()[-8:]]
+    return [line for serial, size in sizes.items() for name in names for line in lists.compared(name, serial, size, found)]
 
 
 def bios(work, keyboard, controller):

@@ -19,6 +19,13 @@ PROGRAMS = {
     "rustc": "rustc", "cargo": "cargo", "cc": "gcc", "qemu-system-x86_64": "qemu-system-x86", "modprobe": "kmod", "depmod": "kmod",
     "busybox": "busybox-static",
 }
+IN_C = ["-std=c11", "-D_DEFAULT_SOURCE", "-O1", "-static", "-Wall", "-Wextra", "-Werror"]
+PYTHON = "/usr/bin/python3"
+# Prints which files of modules it has loaded.
+LOADS = """
+import sys, wuzhikar_hid
+print("\\n".join({getattr(module, "__file__", None) or "" for module in list(sys.modules.values())} - {""}))
+"""
 OVMF = "/usr/share/ovmf/OVMF.fd"
 # The crates of the workspace rust/, and their packages: for rust/keymap, and for rust/kbsim.
 WORKSPACE = (list(OF_PROGRAM), " ".join(f"librust-{name.replace('_', '-')}-dev" for name in OF_PROGRAM))
@@ -95,9 +102,35 @@ def build(work):
         building.cargo("build", "-q", "--release", "--target", target, "--package", name, folder=folder, **variables)
     in_c = {name: f"{work}/{name}" for name in ("host", "uhid")}
     for name, path in in_c.items():
-        words = ["-std=c11", "-D_DEFAULT_SOURCE", "-O1", "-static", "-Wall", "-Wextra", "-Werror", "-o", path]
-        subprocess.run(["cc", *words, f"{ROOT}/tests/real_host/linux/{name}.c"], check=True)
+        subprocess.run(["cc", *IN_C, "-o", path, f"{ROOT}/tests/real_host/linux/{name}.c"], check=True)
     return {**in_c, **{name: f"{building.TARGET}/{target}/release/{name}" for name in folders}}
+
+
+def function_in_c(work):
+    """Builds the keyboard as a function of Linux in C: its path."""
+    building.cargo("build", "-q", "--release", folder="c/firmware")
+    folder, program = f"{ROOT}/c/firmware", f"{work}/function_in_c"
+    words = [*IN_C, "-pthread", "-I", folder, f"{folder}/tests/function.c", f"{building.TARGET}/release/libwuzhikar.a", "-o", program]
+    subprocess.run(["cc", *words], check=True)
+    return program
+
+
+def of_python(work):
+    """The package python/ with its library, and what Python loads for it: by their paths in the guest. Empty without Debian's Python."""
+    if not os.path.exists(PYTHON):
+        return {}
+    building.cargo("build", "-q", "--release", folder="c/reader")
+    package, program = f"{work}/wuzhikar_hid", os.path.realpath(PYTHON)
+    shutil.copytree(f"{ROOT}/python/wuzhikar_hid", package)
+    shutil.copy(f"{building.TARGET}/release/libhid_reader.so", package)
+    with open(f"{work}/program", "w", encoding="utf-8") as file:
+        file.write(program)
+    told = subprocess.run([program, "-S", "-B", "-c", LOADS], env={"PYTHONPATH": work}, check=True, stdout=subprocess.PIPE, text=True).stdout
+    files = [path for path in told.splitlines() if not path.startswith(work)]
+    own = {f"python/wuzhikar_hid/{name}": f"{package}/{name}" for name in os.listdir(package)}
+    for path in [program, f"{package}/libhid_reader.so", *(path for path in files if ".so" in path)]:
+        own |= linked(path)
+    return {**own, "python/program": f"{work}/program", **{path.lstrip("/"): path for path in [program, *files]}}
 
 
 def reader():

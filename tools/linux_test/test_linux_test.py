@@ -13,10 +13,10 @@ sys.path.insert(0, os.path.dirname(os.path.abspath(__file__)))
 
 import guest  # noqa: E402
 import lists  # noqa: E402
+import machines  # noqa: E402
 import parsed  # noqa: E402
 import parts  # noqa: E402
 import values  # noqa: E402
-from machines import SECTOR  # noqa: E402
 from processes import Silent, running  # noqa: E402
 
 HERE = f"{parts.ROOT}/tests/real_host/linux"
@@ -54,8 +54,8 @@ class Guest(unittest.TestCase):
         self.assertEqual((len(set(slots)), image[4096:]), (289, b"\xff" * 4096))
 
     def test_the_boot_sector_fits(self):
-        self.assertLess(len(SECTOR), 510)
-        self.assertEqual(SECTOR.index(b"ready"), 0x31)
+        self.assertLess(len(machines.SECTOR), 510)
+        self.assertEqual(machines.SECTOR.index(b"ready"), 0x31)
 
 
 class Values(unittest.TestCase):
@@ -180,10 +180,11 @@ class Lists(unittest.TestCase):
         self.assertIn("keymap, serial number k:", lists.compared("keymap", "k", 16, {("keymap", "k"): without[1:]}))
 
     def test_each_list_is_followed_and_its_commands_are_there(self):
-        self.assertEqual(sorted(os.listdir(f"{HERE}/lists")), sorted(lists.EVERY + lists.ALONE))
+        every = {*lists.EVERY, *lists.ALONE, *lists.OF_FUNCTION, *lists.OF_PYTHON}
+        self.assertEqual(set(os.listdir(f"{HERE}/lists")), every)
         with open(f"{HERE}/commands", encoding="utf-8") as file:
             functions = {line.split("(")[0] for line in file if "() {" in line}
-        for name in lists.EVERY + lists.ALONE:
+        for name in every:
             with open(f"{HERE}/lists/{name}", encoding="utf-8") as file:
                 lines = [line.split() for line in file if line.startswith("> ")]
             words = {words[1] for words in lines} | {words[words.index("by") + 1] for words in lines if "by" in words}
@@ -208,6 +209,16 @@ class Parts(unittest.TestCase):
             open(f"{folder}/boot/vmlinuz-6.1", "wb").close()
             with self.assertRaisesRegex(parts.Missing, "no lib/modules/6.1"):
                 parts.linux()
+
+    def test_a_linux_without_a_module(self):
+        with tempfile.TemporaryDirectory() as folder:
+            os.makedirs(f"{folder}/boot")
+            os.makedirs(f"{folder}/lib/modules/6.1")
+            for name in ("boot/vmlinuz-6.1", "lib/modules/6.1/modules.dep"):
+                open(f"{folder}/{name}", "wb").close()
+            with unittest.mock.patch.dict(os.environ, LINUX=folder, PATH=f"{os.environ['PATH']}:/usr/sbin:/sbin"):
+                with self.assertRaisesRegex(guest.Lacking, f"no module dummy-hcd in {folder}/lib/modules/6.1"):
+                    machines.boot(folder, {}, b"", guest.OF_FUNCTION)
 
     def test_a_program_that_is_not_there(self):
         with unittest.mock.patch.dict(os.environ, PATH=""), self.assertRaisesRegex(parts.Missing, r"no rustc \(Debian: rustc\)"):

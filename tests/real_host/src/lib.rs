@@ -1,8 +1,11 @@
 // SPDX-License-Identifier: MIT OR Apache-2.0
-//! A keyboard on real hosts: what it does on a bus, the one in memory, what the hands do, and two ways to a host.
+//! A keyboard on real hosts: what it does on a bus, the one in memory, what the hands do, and three ways to a host.
 #![forbid(unsafe_code)]
 
+pub mod class;
 pub mod device;
+pub mod file_flash;
+pub mod function;
 pub mod hands;
 mod kept;
 mod on_bus;

@@ -1,11 +1,14 @@
 // SPDX-License-Identifier: MIT OR Apache-2.0
 //! The program around a keyboard on a bus: its words, the entry points of hosts, and the hands.
 
+use crate::class::Class;
+use crate::device::product;
+use crate::file_flash::FileFlash;
 use crate::kept::{Kept, kind_of};
 use crate::on_bus::OnBus;
 use crate::run::{Event, Run, named};
 use crate::socket::Until;
-use crate::{print, tell, usbip};
+use crate::{function, print, tell, usbip};
 use std::ffi::{OsStr, OsString};
 use std::io::{BufRead, Error, Result};
 use std::net::TcpListener;
@@ -17,14 +20,18 @@ use std::sync::mpsc::{Sender, channel};
 use std::time::Duration;
 
 const HELP: &str = "\
-real_host [--packet 8|16|32|64] [--serial TEXT] [--image FILE] [--save FILE] COMMAND
+real_host [--packet 8|16|32|64] [--serial TEXT] [--image FILE] [--save FILE] [--slow MILLISECONDS] COMMAND
 
   attach           plugs the keyboard into this Linux (as root; modprobe vhci-hcd first)
   serve [ADDRESS]  serves usbip, at 127.0.0.1:3240 without an address, for usbip attach -r HOST -b 1-1
   guest SOCKET     speaks usbredir with QEMU at a socket of this name
+  function FLASH FOLDER GADGET
+                   is a function of this Linux, which keeps endpoint 0: FunctionFS is mounted at FOLDER, GADGET is the gadget's folder
+                   in configfs, FLASH a file with a flash image, and a power loss ends the process (as root)
 
 --packet is the packet size of endpoint 1 (16), --serial the serial number (0001). --image starts on a flash image of 2 to 8 pages of
-4,096 bytes, in place of two erased pages; --save keeps the flash in a file, which may be the same.
+4,096 bytes, in place of two erased pages; --save keeps the flash in a file, which may be the same. --slow is how long an operation
+of function's flash takes (0).
 
 Standard input has what the hands do, a line each. They go on when the host has taken the reports of the line before:
   type TEXT        taps the keys of these characters, on the default keymap and a host of the United States
@@ -47,12 +54,14 @@ pub struct Given {
     pub serial: Option<String>,
     pub image: Option<PathBuf>,
     pub save: Option<PathBuf>,
+    slow: Duration,
     command: Vec<OsString>,
 }
 
 impl Given {
     fn read(words: impl Iterator<Item = OsString>) -> std::result::Result<Given, String> {
-        let mut given = Given { packet: 16, serial: None, image: None, save: None, command: Vec::new() };
+        let mut given =
+            Given { packet: 16, serial: None, image: None, save: None, slow: Duration::ZERO, command: Vec::new() };
         let mut words = words.peekable();
         while let Some(option) = words.next_if(|word| word.as_encoded_bytes().starts_with(b"--")) {
             let option = option.to_string_lossy();
@@ -65,6 +74,10 @@ impl Given {
                 "--serial" => given.serial = Some(value.into_string().map_err(|_| "--serial is no text in UTF-8")?),
                 "--image" => given.image = Some(value.into()),
                 "--save" => given.save = Some(value.into()),
+                "--slow" => {
+                    let milliseconds = value.to_str().and_then(|text| text.parse().ok());
+                    given.slow = Duration::from_millis(milliseconds.ok_or("--slow is a number of milliseconds")?);
+                }
                 _ => return Err(format!("{option} is no option")),
             }
         }
@@ -169,8 +182,24 @@ fn begin(given: &Given, make: Make) -> std::result::Result<Result<()>, String> {
             go(given, make, |_, events| serve(address, events))
         }
         ("guest", [path]) => go(given, make, |_, events| guest(Path::new(path), events)),
+        ("function", [flash, folder, gadget]) => function(given, Path::new(flash), Path::new(folder), Path::new(gadget)),
         _ if given.command.is_empty() => return Err("no command".to_string()),
         _ => return Err(format!("no such command: {}", given.command.join(OsStr::new(" ")).to_string_lossy())),
+    })
+}
+
+/// A function of this Linux, on the flash in a file.
+fn function(given: &Given, flash: &Path, folder: &Path, gadget: &Path) -> Result<()> {
+    let product = product(given.packet, None);
+    let make = |given: &Given| {
+        let opened = FileFlash::open(flash, given.slow, || std::process::abort());
+        let class = opened.and_then(|flash| Class::new(flash, product)).map_err(|error| named(flash.display(), error))?;
+        Ok(Box::new(class) as Box<dyn OnBus>)
+    };
+    go(given, &make, |run, _| {
+        let wire = function::Wire::plug(folder, gadget, product.descriptors().configuration);
+        run.function(wire.map_err(|error| named(folder.display(), error))?);
+        Ok(())
     })
 }
 

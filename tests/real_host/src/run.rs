@@ -4,9 +4,10 @@
 use crate::kept::Kept;
 use crate::on_bus::{OnBus, plug, scan_of};
 use crate::socket::{Answers, Socket};
-use crate::{hands, print, tell, usbip, usbredir};
+use crate::{function, hands, print, tell, usbip, usbredir};
 use std::collections::VecDeque;
 use std::fmt::Display;
+use std::fs::File;
 use std::io::{Error, ErrorKind, Result};
 use std::net::TcpStream;
 use std::os::fd::AsRawFd;
@@ -29,12 +30,14 @@ pub enum Event {
 enum Wire {
     Usbip(usbip::Wire<Answers>),
     Usbredir(usbredir::Wire<Answers>),
+    Function(function::Wire<File>),
 }
 
 /// The host that the keyboard is plugged into.
 struct Host {
     number: u32,
-    socket: Socket,
+    /// Where the kernel of this Linux stands between there is none.
+    socket: Option<Socket>,
     wire: Wire,
     /// What it asked and the keyboard has not taken, of which some waits at most.
     asked: Receiver<()>,
@@ -139,7 +142,7 @@ impl Run {
         let asked = self.listen(number, move || usbip::read_urb(&mut from).map(|urb| Event::Urb(number, urb)));
         let wire = usbip::Wire::plug(Answers::to(socket.again()?)?, &mut *self.device);
         (self.waiting, self.patience) = (true, PATIENCE);
-        self.host = Some(Host { number, socket, wire: Wire::Usbip(wire), asked });
+        self.host = Some(Host { number, socket: Some(socket), wire: Wire::Usbip(wire), asked });
         Ok(())
     }
 
@@ -178,8 +181,16 @@ impl Run {
         });
         let wire = usbredir::Wire::plug(Answers::to(socket.again()?)?, &mut *self.device)?;
         (self.waiting, self.patience) = (true, PATIENCE);
-        self.host = Some(Host { number, socket, wire: Wire::Usbredir(wire), asked });
+        self.host = Some(Host { number, socket: Some(socket), wire: Wire::Usbredir(wire), asked });
         Ok(())
+    }
+
+    /// It is a function of this Linux.
+    pub fn function(&mut self, wire: function::Wire<File>) {
+        self.plugs += 1;
+        (self.waiting, self.patience) = (true, PATIENCE);
+        let (_, asked) = sync_channel(0);
+        self.host = Some(Host { number: self.plugs, socket: None, wire: Wire::Function(wire), asked });
     }
 
     /// The power went and came back: the device vanishes from the bus, and is there again.
@@ -217,8 +228,8 @@ impl Run {
     fn keep(&mut self, told: Result<()>) {
         if let Err(error) = told {
             tell(format_args!("the host has gone: {error}"));
-            if let Some(host) = self.host.take() {
-                host.socket.hang_up();
+            if let Some(socket) = self.host.take().and_then(|host| host.socket) {
+                socket.hang_up();
             }
         }
     }
@@ -278,6 +289,7 @@ impl Run {
         let polled = match self.host.as_mut().map(|host| &mut host.wire) {
             Some(Wire::Usbip(wire)) => wire.poll(&mut *self.device),
             Some(Wire::Usbredir(wire)) => wire.poll(&mut *self.device),
+            Some(Wire::Function(wire)) => wire.poll(&mut *self.device),
             None => Ok(true),
         };
         self.pass(polled.as_ref().is_ok_and(|all| *all));
