@@ -481,5 +481,8 @@ fn read_reports(given: &ArgMatches) -> Result<bool, Ended> {
         if is_raw { raw(&mut from, is_device, &mut teller) } else { lines(&mut from, &mut teller) }?;
     }
     teller.out.flush()?;
+    if let Some(asked) = teller.asked.filter(|_| teller.found.is_none()) {
+        teller.say(&format!("no packet of {asked} with a report came"));
+    }
     Ok(teller.refused)
 }

@@ -252,11 +252,11 @@ fn packets_of_usbmon_are_of_one_address() {
         ("1:3:1 mouse interfaces", 2),
         ("1:4 mouse mixed", 1),
         ("1:004:1 mouse mixed", 1),
-        ("2:3 mouse mixed", 0),
         ("1:3:2 mouse interfaces", 1),
     ] {
         folder.ends(&format!("$K read --address {words}"), 0, &told.repeat(count), "");
     }
+    folder.ends("$K read --address 2:3 mouse mixed", 0, "", "mixed: no packet of 2:003:0 with a report came\n");
     for words in
         ["--address 3", "--address 1:x", "--address 1:2:3:4", "--address +1:3", "--address 1:3 --raw", "--address 1:3 --live"]
     {

@@ -25,6 +25,7 @@ pub fn read(text: &[u8], language: Language) -> Result<Vec<u8>, Fault> {
         if language == Language::Rust {
             return Err(no_list(start));
         }
+        in_macro(text).map_or(Ok(()), |at| Err(no_list(at)))?;
     }
     let (bytes, end) = listed(text, open.map_or((start, None), |open| (open + 1, Some((open, close)))), language)?;
     // (What is assigned to, as in `[0] = 5`, is an index or a pattern.)
@@ -63,6 +64,7 @@ fn listed(text: &[u8], (from, opened): (usize, Option<(usize, u8)>), language: L
 
 /// The bytes of hex digits, or of numbers `0x05 0x01`, or `05h 01h`, with comments, also lines of `#`, and with commas or without.
 pub fn read_loose(text: &[u8]) -> Result<Vec<u8>, Fault> {
+    in_macro(text).map_or(Ok(()), |at| Err(Fault { at, why: Why::NoList }))?;
     let mut text = text.to_vec();
     let lines = text.split_mut(|byte| *byte == b'\n');
     lines.filter(|line| line.trim_ascii_start().starts_with(b"#")).for_each(|line| line.fill(b' '));
@@ -92,8 +94,19 @@ pub fn likely(text: &[u8]) -> Option<Form> {
     if brace(&c).is_none() && bracket(&rust).is_some() {
         return Some(Form::Rust);
     }
+    if in_macro(text).is_some() {
+        return Some(Form::C);
+    }
     let marks = [(b'{', Form::C), (b'[', Form::Rust), (b',', Form::C)];
     marks.into_iter().find(|(mark, _)| c.contains(mark)).map(|(_, form)| form)
+}
+
+/// Where a list begins in a text that has nothing but macros of C and comments: in none of them it is one.
+fn in_macro(text: &[u8]) -> Option<usize> {
+    let (bare, left) = (bare(text, Language::C).0, without_comments(text).ok()?);
+    let is_macro = |at: usize| left[at] == b'#' && left[at + 1..].trim_ascii_start().starts_with(b"define");
+    let is_told = bare.iter().all(|byte| is_blank(*byte)) && (0..left.len()).any(is_macro);
+    left.iter().position(|byte| is_told && *byte == b'{')
 }
 
 /// A text in which blanks stand for its comments, at the same places.
