@@ -6,7 +6,8 @@ A fence says what it is, and a copy of the repository's folders, called `wuzhika
 - `toml` is what stands in the Cargo.toml of a package beside the copy: it has to resolve. A `rust` program behind it is
   that package's src/main.rs.
 - `c` is a program, which is linked with the library of c/reader where it includes its header, and else with that of c/firmware.
-- `sh` are commands, run at the copy's root; `python` is a program that is run where the last `sh` of its page ended.
+- `sh` are commands, run at the copy's root; `python` is a program that is run where the last `sh` of its page ended, beside the
+  package of python/.
 - `text` is what the one before it prints on standard output, `text part` some lines of it that follow each other.
 - `console` are commands behind `$`, each above what a terminal shows of it; they are run in the repository itself, where `kbsim` is
   bin/kbsim.
@@ -203,13 +204,14 @@ class Page:
 
     def c(self, fence):
         folder = f"{building.tree()}/c/{'reader' if 'hid_reader.h' in fence.text else 'firmware'}"
-        with open(f"{folder}/shown.c", "w") as file:
+        shown = f"{building.FOLDER}/shown"
+        with open(f"{shown}.c", "w") as file:
             file.write(fence.text)
         self.ran(fence, ["cargo", "build", "-q", "--release"], folder)
         library = f"{building.TARGET}/release/lib{'hid_reader' if folder.endswith('reader') else 'wuzhikar'}.a"
-        words = ["cc", "-std=c11", "-Wall", "-Wextra", "-Wpedantic", "-Werror", "-I.", "-Iexamples", "shown.c", library]
-        self.ran(fence, [*words, "-o", f"{building.TARGET}/shown"], folder)
-        return self.ran(fence, [f"{building.TARGET}/shown"], folder)
+        words = ["cc", "-std=c11", "-Wall", "-Wextra", "-Wpedantic", "-Werror", "-I.", "-Iexamples", f"{shown}.c", library]
+        self.ran(fence, [*words, "-o", shown], folder)
+        return self.ran(fence, [shown], folder)
 
     def sh(self, fence):
         told = self.ran(fence, ["bash", "-euo", "pipefail", "-c", f"{self.before}{fence.text}\npwd"], self.root)
@@ -226,6 +228,12 @@ class Page:
             self.test.assertEqual(told.rstrip("\n"), wanted.rstrip("\n"), f"{fence.place}: {command}")
 
     def python(self, fence):
+        if "wuzhikar_hid" in fence.text:
+            self.ran(fence, ["cargo", "build", "-q", "--release"], f"{building.tree()}/c/reader")
+            package = f"{building.FOLDER}/python/wuzhikar_hid"
+            shutil.copytree(f"{ROOT}/python/wuzhikar_hid", package, dirs_exist_ok=True)
+            shutil.copy(f"{building.TARGET}/release/libhid_reader.so", package)
+            self.environment = {**self.environment, "PYTHONPATH": f"{building.FOLDER}/python"}
         return self.ran(fence, ["python3", "-B", "-c", fence.text], self.folder)
 
 
