@@ -12,12 +12,18 @@ import tempfile
 import unittest
 
 ROOT = os.path.dirname(os.path.dirname(os.path.abspath(__file__)))
-sys.path.insert(0, f"{ROOT}/tools")
+sys.path[:0] = [f"{ROOT}/tools", f"{ROOT}/tools/export_rust"]
 import building  # noqa: E402
+from room import Room, debian_sources  # noqa: E402
 
 WARNINGS = ["-std=c11", "-Wall", "-Wextra", "-Wpedantic", "-Werror", "-g", "-O1"]
 SANITIZERS = ["-fsanitize=address,undefined", "-fno-sanitize-recover=all"]
+BOOTSTRAP = {"RUSTC_BOOTSTRAP": "1"}
 CALLS, SEEDS = 10_000, 3
+# Without the plugin of LLVM, which reads bitcode of another version in place of the symbols.
+NM = ["nm", "--plugin", "/dev/null"]
+# Targets of build.sh, one without atomics.
+CHIPS = ("thumbv6m-none-eabi", "riscv32imc-unknown-none-elf")
 # What a compiler asks for that has no C library (bcmp on Linux alone), and what the firmware defines.
 ASKED = {"memcpy", "memmove", "memset", "memcmp", "bcmp", "wz_panic"}
 
@@ -49,10 +55,11 @@ class Firmware(unittest.TestCase):
         if lacks:
             self.skipTest(f"not there: {', '.join(lacks)}")
 
-    def says(self, said, name, *words):
+    def says(self, said, name, *words, library=None):
         """Builds a program of tests/ with the sanitizers, and runs it."""
         program = f"{self.work}/{name}"
-        self.ran(["gcc", *WARNINGS, *SANITIZERS, "-I.", "-Itests/restated", f"tests/{name}.c", self.library, "-o", program])
+        built = ["-I.", "-Itests/restated", f"tests/{name}.c", library or self.library, "-o", program]
+        self.ran(["gcc", *WARNINGS, *SANITIZERS, *built])
         self.assertEqual(self.ran([program, *words]), f"{said}\n")
 
     def test_the_keyboard(self):
@@ -72,8 +79,16 @@ class Firmware(unittest.TestCase):
         self.says("a keyboard_task types, and stores what the interrupt brought", "qmk")
 
     def test_calls_at_random(self):
+        """The library has the checks of AddressSanitizer itself there, where rustc can make them."""
+        library, flag = self.library, "-Zsanitizer=address"
+        if subprocess.run(["rustc", flag, "--print", "cfg"], env=self.environment | BOOTSTRAP, capture_output=True).returncode == 0:
+            host = re.search("^host: (.*)$", self.ran(["rustc", "-vV"]), re.M)[1]
+            target = f"{building.FOLDER}/sanitized"
+            self.ran(["cargo", "build", "-q", "--release", "--target", host], **BOOTSTRAP, CARGO_TARGET_DIR=target, RUSTFLAGS=flag)
+            library = f"{target}/{host}/release/libwuzhikar.a"
+            self.assertIn("__asan_report", self.ran(["nm", library]))
         for number in range(1, SEEDS + 1):
-            self.says("calls at random: each answered as it has to be", "fuzz", str(CALLS), str(number))
+            self.says("calls at random: each answered as it has to be", "fuzz", str(CALLS), str(number), library=library)
 
     def test_the_parts_in_rust(self):
         for part, words in {"clippy": ["-q", "--", "-D", "warnings"], "fmt": ["--check"]}.items():
@@ -86,20 +101,43 @@ class Firmware(unittest.TestCase):
                 blocks = re.findall(r"unsafe \{|unsafe fn|unsafe impl|unsafe extern", file.read())
             self.assertEqual(bool(blocks), name == "edge.rs", f"{name}: unsafe stands in edge.rs, and there alone")
 
-    def test_the_symbols(self):
+    def declared(self):
+        """The calls that the header declares."""
+        with open(f"{self.folder}/wuzhikar.h") as file:
+            return set(re.findall(r"^[a-z][\w ]*?[ *](wz_\w+)\(", file.read(), re.M))
+
+    def has_its_symbols(self, library):
         """Those that are seen are those of the header; none of std, an allocator or libc is asked for."""
         self.needs("nm")
-        with open(f"{self.folder}/wuzhikar.h") as file:
-            declared = set(re.findall(r"^[a-z][\w ]*?[ *](wz_\w+)\(", file.read(), re.M))
-        told = self.ran(["nm", "-A", "-g", self.library])
+        told = self.ran([*NM, "-A", "-g", library])
         lines = [line.split() for line in told.splitlines() if ".o:" in line]
         own = [(words[-2], words[-1]) for words in lines if ":wuzhikar-" in words[0]]  # (the others are compiler_builtins)
         defined = {name for kind, name in own if kind not in "Uw"}
-        self.assertEqual({name for name in defined if name.startswith("wz_")}, declared - {"wz_panic"})
+        self.assertEqual({name for name in defined if name.startswith("wz_")}, self.declared() - {"wz_panic"})
         everywhere = {words[-1] for words in lines if words[-2] not in "Uw"}
         self.assertEqual({name for kind, name in own if kind in "Uw"} - everywhere - ASKED, set())
-        names = self.ran(["nm", "-C", self.library])
-        self.assertNotRegex(names, r"\b(std|alloc)::|__rust_alloc|__rdl_|malloc|\bfree$")
+        self.assertNotRegex(self.ran([*NM, "-C", library]), r"\b(std|alloc)::|__rust_alloc|__rdl_|malloc|\bfree$")
+
+    def test_the_symbols(self):
+        self.has_its_symbols(self.library)
+
+    def test_the_library_of_a_chip(self):
+        """build.sh makes it, of the core that other steps take too, and it asks for no more than this machine's."""
+        for target in CHIPS:
+            with self.subTest(target):
+                made, core = f"{self.work}/{target}", {"RUSTFLAGS": ""}
+                if debian_sources():
+                    core["WUZHIKAR_SYSROOT"] = Room().sysroot(target)
+                ran = subprocess.run(["./build.sh", target, made], cwd=self.folder, env={**self.environment, **core}, stdout=subprocess.PIPE,
+                                     stderr=subprocess.STDOUT, text=True)
+                if ran.returncode == 1 and "rustc has no library" in ran.stdout:  # (it names Debian's packages)
+                    self.skipTest(ran.stdout)
+                self.assertEqual((ran.returncode, ran.stdout.splitlines()[-1:]), (0, [f"{made}/libwuzhikar.a"]), ran.stdout)
+                self.has_its_symbols(f"{made}/libwuzhikar.a")
+                self.assertEqual(sorted(os.listdir(made)), ["libwuzhikar.a", "wuzhikar.h"])
+        told = subprocess.run([f"{self.folder}/build.sh"], stdout=subprocess.PIPE, stderr=subprocess.STDOUT, text=True)
+        self.assertEqual(told.returncode, 2)
+        self.assertIn(CHIPS[0], told.stdout)
 
     def test_the_header(self):
         """C++ and C take it without a warning, and its version is the project's."""

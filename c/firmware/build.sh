@@ -16,7 +16,7 @@ if has "${RUSTC:-rustc}"; then
     :
 elif [ -x /usr/bin/rustc ] && library=/usr/src/rustc-$(/usr/bin/rustc --version | cut -d' ' -f2)/library && [ -d "$library/compiler-builtins" ]; then
     sysroot=${WUZHIKAR_SYSROOT:-$PWD/target/sysroot}
-    [ -d "$sysroot/lib/rustlib/$target/lib" ] || ../../tools/export_rust/make_core.sh /usr/bin/rustc "$library" "$target" "$sysroot"
+    [ -f "$sysroot/lib/rustlib/$target/lib/libcompiler_builtins-made.rlib" ] || ../../tools/export_rust/make_core.sh /usr/bin/rustc "$library" "$target" "$sysroot"
     export RUSTC=/usr/bin/rustc RUSTFLAGS="${RUSTFLAGS:-} --sysroot $sysroot"
 else
     echo "rustc has no library for $target. Install it by: rustup target add $target" >&2

@@ -15,7 +15,8 @@
  * nothing.
  *
  * Answers. Each call gives a number from 0 on, or a status below 0, and then it did nothing else but what is said there.
- * Beside the statuses that a call names, any call gives WZ_NULL where it needs a pointer and that is null or not aligned.
+ * Beside the statuses that a call names, any call gives WZ_NULL where it needs a pointer and that is null or not aligned, and
+ * WZ_LENGTH of a count or a room of more than memory can hold.
  *
  * Pointers. Behind one stand as many values as its type or the count beside it says. Nobody writes what a call reads while it
  * runs, and no pointer leads into an object. None is kept but those of a layout, of a context and of names. */

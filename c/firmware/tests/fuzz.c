@@ -187,7 +187,7 @@ int main(int count, char **words) {
     make_objects();
     while (calls < wanted)
         any_call();
-    NEEDS(nested > wanted / 100 && refused > wanted / 100 && faults > wanted / 1000);
+    NEEDS(nested > wanted / 100 && refused > wanted / 100 && faults > wanted / 1000 && restarts > wanted / 1000);
     free_objects();
     puts("calls at random: each answered as it has to be");
     return 0;

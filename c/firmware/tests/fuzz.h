@@ -21,7 +21,7 @@ typedef struct record {
 } record;
 
 static object objects[KINDS][2];
-static long calls, nested, refused, faults;
+static long calls, nested, refused, faults, restarts;
 static int depth;
 static record records[4];
 
@@ -101,6 +101,7 @@ static inline void gives(const object *of, int answer, unsigned statuses, int mo
 static inline void starts(object *of, int answer, unsigned statuses) {
     int wanted = gate(of, 1);
     NEEDS(wanted != 0 ? answer == wanted : answer == 0 || (answer < 0 && statuses & 1u << -answer));
+    restarts += wanted == 0 && of->is_started && answer == 0;
     if (wanted == 0)
         of->is_started = answer == 0;
 }
