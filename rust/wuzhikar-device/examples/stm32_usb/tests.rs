@@ -139,13 +139,17 @@ impl Registers for OnWire<Played> {
 }
 
 /// Reports of one packet, and a keyboard that may wake its host.
-static PRODUCT: Product<'static> =
+static PLAIN: Product<'static> =
     Product::of(Identity { packet_size: PacketSize::Bytes32, remote_wakeup: true, ..Identity::TEST });
 
-/// What a maker ships.
-struct Plain;
+/// Reports of up to three packets, and a keyboard that may not wake its host.
+static SMALL: Product<'static> =
+    Product::of(Identity { packet_size: PacketSize::Bytes8, remote_wakeup: false, ..Identity::TEST });
 
-impl Firmware for Plain {
+/// What a maker ships.
+struct Shipped<const IS_SMALL: bool>;
+
+impl<const IS_SMALL: bool> Firmware for Shipped<IS_SMALL> {
     type Registers = Played;
     type Driver = Stm32Usb<'static, OnWire<Played>>;
     type Cells = RefCell<SimFlash>;
@@ -153,7 +157,7 @@ impl Firmware for Plain {
     type Layout = Standard;
 
     fn product() -> &'static Product<'static> {
-        &PRODUCT
+        if IS_SMALL { &SMALL } else { &PLAIN }
     }
 
     fn registers() -> Played {
@@ -177,55 +181,17 @@ impl Firmware for Plain {
     }
 }
 
-/// The same with reports of up to three packets, and a keyboard that may not wake its host.
-struct Small;
-
-static SMALL: Product<'static> =
-    Product::of(Identity { packet_size: PacketSize::Bytes8, remote_wakeup: false, ..Identity::TEST });
-
-impl Firmware for Small {
-    type Registers = Played;
-    type Driver = Stm32Usb<'static, OnWire<Played>>;
-    type Cells = RefCell<SimFlash>;
-    type Flash = Cells<SimFlash>;
-    type Layout = Standard;
-
-    fn product() -> &'static Product<'static> {
-        &SMALL
-    }
-
-    fn registers() -> Played {
-        Plain::registers()
-    }
-
-    fn driver(wire: &'static Wired<Played>) -> Self::Driver {
-        Plain::driver(wire)
-    }
-
-    fn cells() -> RefCell<SimFlash> {
-        Plain::cells()
-    }
-
-    fn flash(cells: &'static RefCell<SimFlash>) -> Cells<SimFlash> {
-        Plain::flash(cells)
-    }
-
-    fn round(driver: Self::Driver, device: &mut UsbOf<Self>) {
-        driver.serve(device);
-    }
-}
-
 #[test]
 fn a_host_finds_no_fault() {
-    testing::check::<Plain>(2000);
+    testing::check::<Shipped<false>>(2000);
 }
 
 #[test]
 fn a_host_finds_no_fault_with_small_packets() {
-    testing::check::<Small>(1000);
+    testing::check::<Shipped<true>>(1000);
 }
 
 #[test]
 fn neither_fsusp_nor_resume_is_left() {
-    assert_eq!(testing::session::<Plain>().borrow().registers.control, 0);
+    assert_eq!(testing::session::<Shipped<false>>().borrow().registers.control, 0);
 }
