@@ -261,14 +261,14 @@ pub fn codes() -> Option<&'static Codes> {
     unsafe { CODES.load(Ordering::Relaxed).as_ref() }
 }
 
-#[cfg(not(test))]
+#[cfg(not(any(test, feature = "hosted")))]
 unsafe extern "C" {
     /// The firmware's.
     fn wz_panic() -> !;
 }
 
 /// What the proofs exclude, and what is written by hand here never does.
-#[cfg(not(test))]
+#[cfg(not(any(test, feature = "hosted")))]
 #[panic_handler]
 fn panic(_: &core::panic::PanicInfo) -> ! {
     // SAFETY: the header asks for a function without a condition that does not return.

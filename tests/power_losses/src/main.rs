@@ -3,7 +3,7 @@
 //! confirmed, on flashes of many geometries, plain and with error correction.
 //!
 //! `power_losses [SUBJECT..] [LOSSES]`: `log`, `settings` and `keyboard`, or all of them, with so many losses of power each (100000).
-#![forbid(unsafe_code)]
+#![deny(unsafe_code)] // (but for the calls of C)
 
 mod chip;
 mod code;
@@ -23,7 +23,7 @@ use std::process::ExitCode;
 
 use flashes::{over_all, report};
 use other::Other;
-use subjects::{Keyboard, Log, Settings, Subject};
+use subjects::{InC, InRust, Keyboard, Log, Settings, Subject};
 use wuzhikar::Standard;
 
 const LOSSES: u64 = 100_000;
@@ -33,11 +33,11 @@ fn lives<S: Subject>(losses: u64) -> Result<String, String> {
     report::<S>(&over_all::<S>(losses)?)
 }
 
-/// The lives of the subject of this name, half of a keyboard's with another layout.
+/// The lives of the subject of this name, half of a keyboard's with another layout; settings also by the calls of C.
 fn of(name: &str, losses: u64) -> Result<String, String> {
     match name {
         "log" => lives::<Log>(losses),
-        "settings" => lives::<Settings>(losses),
+        "settings" => Ok(lives::<Settings<InRust>>(losses)? + &lives::<Settings<InC>>(losses.div_ceil(4))?),
         "keyboard" => {
             let half = losses.div_ceil(2);
             Ok(lives::<Keyboard<Standard>>(half)? + &lives::<Keyboard<Other>>(half)?)
@@ -89,7 +89,8 @@ mod tests {
     fn cells_that_waver_and_erases_that_program_first_lose_something() {
         for cells in [Cells { waver: true, program_first: false }, Cells { waver: false, program_first: true }] {
             assert!(breaks::<Log, Plain<1, 4, 4096>>(cells), "{cells:?}");
-            assert!(breaks::<Settings, Plain<1, 4, 4096>>(cells), "{cells:?}");
+            assert!(breaks::<Settings<InRust>, Plain<1, 4, 4096>>(cells), "{cells:?}");
+            assert!(breaks::<Settings<InC>, Plain<1, 4, 4096>>(cells), "{cells:?}");
             assert!(breaks::<Keyboard<Standard>, Plain<1, 4, 4096>>(cells), "{cells:?}");
         }
         let cells = Cells { waver: true, program_first: false };

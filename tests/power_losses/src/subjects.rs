@@ -4,10 +4,12 @@
 mod keyboard;
 mod log;
 mod settings;
+mod settings_in_c;
 
 pub use keyboard::Keyboard;
 pub use log::Log;
-pub use settings::Settings;
+pub use settings::{InRust, Settings};
+pub use settings_in_c::InC;
 
 use wuzhikar_log::NorFlash;
 
