@@ -146,6 +146,10 @@ class Bench:
                 return True, "a session is as expected"
         return False, f"a session is not that of examples/chip_nrf51/expected:\n{told}"
 
+    def size(self, features):
+        """The bytes of code and constants of a firmware."""
+        return int(self.room.run(["size", self.firmware(features)]).decode().splitlines()[1].split()[0])
+
     def sum(self, features):
         """A checksum of a firmware and of what cuts it."""
         paths = [self.firmware(features), f"{HERE}/switch.c", *(f"{HERE}/src/{name}" for name in sorted(os.listdir(f"{HERE}/src")))]

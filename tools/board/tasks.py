@@ -10,8 +10,10 @@ from room import Failed
 CALLS = f"{ROOT}/bench/chip.tsv"
 HEAD = [
     "# What calls of examples/chip_nrf51 take on a Cortex-M0: the most instructions between two looks at the line, which is the longest",
-    "# call of what is done; of a start all up to the first look; and the deepest stack. `bin/board-test --only calls --write` writes it.",
+    "# call of what is done; of a start all up to the first look; the deepest stack, and the size of the firmware. `bin/board-test --only",
+    "# calls --write` writes it.",
 ]
+SIZE = "code and constants, in bytes"
 
 
 class Task(NamedTuple):
@@ -33,6 +35,7 @@ def measure(bench, write):
     """Compares what calls of each firmware take with what is kept, where the same rustc built it; or keeps it."""
     version = bench.room.run([bench.more.get("RUSTC", "rustc"), "--version"]).decode().strip()
     rows = [f"{name}\t{row}" for name, features in bench.firmwares.items() for row in bench.told(name, features, "measure").splitlines()]
+    rows += [f"{name}\t{SIZE}\t{bench.size(features)}" for name, features in bench.firmwares.items()]
     if write:
         with open(CALLS, "w", encoding="utf-8") as file:
             file.write("\n".join([*HEAD, f"# {version}", "firmware\twhat\tcount", *rows, ""]))
