@@ -27,7 +27,8 @@ pub enum Register {
 pub trait Registers {
     fn read(&mut self, register: Register) -> u16;
     fn write(&mut self, register: Register, value: u16);
-    /// The packet that endpoint 0 has received.
+    /// The packet that endpoint 0 has received. On STM32 G0, C0, H5 and U5 its length is right some 800 ns behind CTR_RX (erratum, from
+    /// memory): wait first.
     fn received(&mut self) -> ArrayVec<u8, 8>;
     /// Puts a packet where an endpoint sends it from, and its length into the table of buffers.
     fn fill(&mut self, endpoint: Register, packet: &[u8]);
