@@ -1,5 +1,5 @@
 -- What a healthy flash is sure to program is what the adapter programs.
-use Rattle.std.proofs.Common.{◌≡◌, ℕ, ◌+◌, ◌*◌, ◌<◌, ◌&&◌, zero, suc, true, Some, List, length, get_or, nat_lt, arith, sym, ◌∙◌, refl}
+use Rattle.std.proofs.Common.{◌≡◌, ℕ, ◌+◌, ◌*◌, ◌<◌, ◌&&◌, zero, suc, true, Some, List, get_or, nat_lt, arith, sym, ◌∙◌, refl}
 use Rattle.std.specs.Cmp.Lexicographic.{bytes_decides}
 use Rattle.std.proofs.lemmas.Bool.{lt-ltb}
 use Rattle.std.proofs.lemmas.Grind.{same_number_lists}
@@ -9,6 +9,7 @@ use Rattle.ecc_flash.specs.Reading.{blank, same, paired, is_word}
 use Rattle.ecc_flash.specs.Model.{WriteUnit}
 use Rattle.ecc_flash.specs.Paired.{AllKept, slot_in, image_of}
 use Rattle.ecc_flash.proofs.Images.{slot_is}
+use Rattle.ecc_flash.proofs.Words.{eight_of}
 
 short_each : (u : List ℕ) → IsShortWord u → (k : ℕ) → k < 8 → get_or u k 0 ≡ get_or (paired (get_or u 0 0) (get_or u 1 0) (get_or u 2 0) (get_or u 3 0)) k 0
 unfolding paired
@@ -21,10 +22,6 @@ short_each u w (suc (suc (suc (suc (suc zero))))) l = omega (arith, w.pairs 1 (o
 short_each u w (suc (suc (suc (suc (suc (suc zero)))))) l = omega (arith, w.pairs 2 (omega arith))
 short_each u w (suc (suc (suc (suc (suc (suc (suc zero))))))) l = omega (arith, w.pairs 3 (omega arith))
 short_each u w (suc (suc (suc (suc (suc (suc (suc (suc k)))))))) l = absurd (omega arith)
-
-eight_of : (a b c d : ℕ) → length (paired a b c d) ≡ 8
-unfolding paired
-eight_of a b c d = refl
 
 pub short_word : (u : List ℕ) → IsShortWord u → is_word u ≡ true
 unfolding is_word

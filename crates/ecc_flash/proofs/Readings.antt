@@ -4,25 +4,21 @@ use Rattle.std.specs.Cmp.Lexicographic.{bytes_decides}
 use Rattle.std.proofs.lemmas.Bool.Decides.{nat_tests}
 use Rattle.std.proofs.lemmas.Nat.{xor_of_8}
 use Rattle.std.proofs.lemmas.Nat.Bits.{bit_at-zero, bit_at_ones, bit_at_above, bit_at-lt}
-use Rattle.std.proofs.lemmas.Bool.{cases_lt}
+use Rattle.std.proofs.lemmas.Bool.{cases_lt, and_parts}
 use Rattle.std.proofs.lemmas.List.{get_or_past, get_or-replicate}
 use Rattle.flash_model.specs.Torn.{Within}
+use Rattle.flash_model.proofs.ByMask.{byte_bits}
 use Rattle.ecc_flash.specs.Units.{IsEight, IsPair, IsCheckOf, Lacks}
 use Rattle.ecc_flash.specs.Reading.{blank, spoiled, same, paired, is_word, check_of, slot_read}
 use Rattle.ecc_flash.specs.Model.{WriteUnit, MayRead, MayBeErased}
 use Rattle.ecc_flash.specs.Paired.{IsChecked, IsKept}
 use Rattle.ecc_flash.proofs.Theorem.{one_word}
 
-both : (a b : Bool) → (a && b) ≡ true → (a ≡ true) × (b ≡ true)
-both true true e = (refl, refl)
-both true false e = cc
-both false b e = cc
-
 -- a word: its bytes, and that bit 31 is clear
 pub word_is : (u : List ℕ) → is_word u ≡ true → (u ≡ paired (get_or u 0 0) (get_or u 1 0) (get_or u 2 0) (get_or u 3 0)) × (get_or u 3 0 < 128)
 unfolding is_word
 word_is u e =
-    let h = both _ _ e in
+    let h = and_parts _ _ e in
     ((bytes_decides _ _).0 h.0, grind (arith, nat_tests))
 
 -- what the two units say, by cases
@@ -188,13 +184,6 @@ kept_eight first second k =
     ]
 
 -- spoiled and blank have each bit of a word of the log
-byte_bits : (x i : ℕ) → x < 256 → bit_at x i ≤ bit_at 255 i
-byte_bits x i l =
-    elim (cases_lt i 8) [
-      | inl b ↦ omega (arith, bit_at_ones 8 i b, bit_at-lt x i)
-      | inr b ↦ omega (arith, bit_at_above x 8 i (omega arith) b)
-    ]
-
 low_bits : (x i : ℕ) → x < 128 → bit_at x i ≤ bit_at 127 i
 low_bits x i l =
     elim (cases_lt i 7) [

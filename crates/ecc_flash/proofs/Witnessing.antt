@@ -3,9 +3,9 @@ use Rattle.std.proofs.Common.{◌≡◌, ℕ, Some, ◌+◌, ◌*◌, ◌<◌, �
 use Rattle.std.proofs.lemmas.Bool.{cases_lt, lt-ltb}
 use Rattle.std.proofs.lemmas.Bool.Decides.{eqb_tells}
 use Rattle.std.proofs.lemmas.List.{get_or-replicate, get_or_past}
-use Rattle.std.proofs.lemmas.Nat.Bits.{bit_at_ones, bit_at_above, bit_at-lt, bit_at-zero}
+use Rattle.std.proofs.lemmas.Nat.Bits.{bit_at-zero}
 use borrow.Author.Tests.{ltb-true}
-use Rattle.std.specs.Int.{bit_at}
+use Rattle.flash_model.proofs.ByMask.{byte_bits}
 use Rattle.ecc_flash.specs.Reading.{blank}
 use Rattle.ecc_flash.specs.Units.{IsEight, Lacks}
 use Rattle.ecc_flash.specs.Model.{WriteUnit, MayBeErased, OnePageOfUnits}
@@ -34,14 +34,6 @@ one_more old now page i unit s l e =
       ];
       kept = λ j out. rw (get_or-set_other now at j unit never (λ f. out (omega arith) (omega arith))) (s.kept j (λ a b. out a (omega arith)));
     }
-
--- no byte has a bit that FFh has not
-byte_bits : (x i : ℕ) → x < 256 → bit_at x i ≤ bit_at 255 i
-byte_bits x i l =
-    elim (cases_lt i 8) [
-      | inl b ↦ omega (arith, bit_at_ones 8 i b, bit_at-lt x i)
-      | inr b ↦ omega (arith, bit_at_above x 8 i (omega arith) b)
-    ]
 
 lacks_none : (meant : List ℕ) → IsEight meant → Lacks meant blank
 unfolding blank

@@ -42,7 +42,7 @@ beside_each u e is (suc (suc (suc (suc (suc (suc zero)))))) l = omega (arith, is
 beside_each u e is (suc (suc (suc (suc (suc (suc (suc zero))))))) l = omega (arith, is, e.each 0, e.each 1, e.each 2, e.each 3, e.each 4, e.each 5, e.each 6, e.each 7)
 beside_each u e is (suc (suc (suc (suc (suc (suc (suc (suc k)))))))) l = absurd (omega arith)
 
-eight_of : (a b c d : ℕ) → length (paired a b c d) ≡ 8
+pub eight_of : (a b c d : ℕ) → length (paired a b c d) ≡ 8
 unfolding paired
 eight_of a b c d = refl
 

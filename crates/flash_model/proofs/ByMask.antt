@@ -149,7 +149,7 @@ erase_mask old new p io inew l t =
     )
 
 -- no byte has a bit that FFh has not
-byte_bits : (x i : ℕ) → x < 256 → bit_at x i ≤ bit_at 255 i
+pub byte_bits : (x i : ℕ) → x < 256 → bit_at x i ≤ bit_at 255 i
 byte_bits x i l =
     elim (cases_lt i 8) [
       | inl b ↦ omega (arith, bit_at_ones 8 i b, bit_at-lt x i)
