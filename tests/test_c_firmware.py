@@ -153,6 +153,15 @@ class Firmware(unittest.TestCase):
                 words = [f"-std={language}", "-Wall", "-Wextra", "-Wpedantic", "-Werror", "-fsyntax-only", f"-I{self.folder}"]
                 self.ran([compiler, *words, "-x", "c++" if "++" in compiler else "c", f"{self.work}/header.c"])
 
+    def test_the_statuses(self):
+        """Numbers and names of the header are those of the library."""
+        with open(f"{self.folder}/wuzhikar.h") as file:
+            told = re.findall(r"^    WZ_(\w+) = (-\d+)\b", file.read(), re.M)
+        with open(f"{self.folder}/src/status.rs") as file:
+            made = re.findall(r'^    (\w+) = (-\d+), c"(\w+)";$', file.read(), re.M)
+        self.assertEqual([(name.title().replace("_", ""), number) for name, number in told], [(name, number) for name, number, _ in made])
+        self.assertTrue(made and all(name == text for name, _, text in made))
+
     def test_what_is_installed(self):
         self.needs("make", "pkg-config", "cmake")
         host = re.search("^host: (.*)$", self.ran(["rustc", "-vV"]), re.M)[1]
