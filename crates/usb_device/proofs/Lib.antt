@@ -10,6 +10,7 @@ pub mod Reporting
 pub mod Emptying
 pub mod Handing
 pub mod Characters
+pub mod Places
 pub mod Scans
 pub mod Layering
 pub mod Wholes

@@ -7,7 +7,7 @@ ghost use Rattle.usb_device.specs.Requests.{has_names, can_wake};
 ghost use Rattle.usb_device.specs.representation.Value.{lent_view, data_bytes};
 
 use crate::packets::packet_at;
-use crate::strings::string_descriptor;
+use crate::strings::packet_of_text;
 use arrayvec::ArrayVec;
 
 /// The descriptors that a maker lends: three that are finished, and names in UTF-16, of which an empty one is none.
@@ -68,7 +68,7 @@ impl<'a> Data<'a> {
     {
         match self {
             Data::Lent(bytes) => packet_at(bytes, asked, index),
-            Data::Text(text) => packet_at(string_descriptor(text).as_slice(), asked, index),
+            Data::Text(text) => packet_of_text(text, asked, index),
             Data::Copied(bytes) => packet_at(bytes.as_slice(), asked, index),
         }
     }

@@ -62,7 +62,6 @@ pub use played_buffers::{Brought, Played, PlayedBuffers};
 pub use played_controller::{Played0, PlayedController, Saw};
 pub use quiet_controller::QuietController;
 pub use report_buffers::ReportBuffers;
-pub use strings::string_descriptor;
 pub use usb_device::UsbDevice;
 pub use whole_reads::{ReadBytes, read};
 pub use whole_transfers::{Status, TransferError, Works, data_status_of, status_of, write};

@@ -1,7 +1,9 @@
 //! String descriptors.
 
-ghost use Rattle.std.specs.Prelude.{◌≡◌, ◌≤◌, length};
-ghost use Rattle.usb_device.specs.Strings.{held_count, is_first, string_descriptor};
+ghost use Rattle.std.specs.Prelude.{◌≡◌, ◌+◌, ◌-◌, ◌*◌, ◌≤◌, ◌<◌, ◌∷◌, length, take, drop, flat_map, slice_index, OnSome};
+ghost use Rattle.std.specs.Option.{option_map};
+ghost use Rattle.usb_device.specs.Packets.{packet_at};
+ghost use Rattle.usb_device.specs.Strings.{held_count, is_first, string_descriptor, unit_bytes};
 
 use arrayvec::ArrayVec;
 
@@ -34,16 +36,50 @@ fn held_count(units: &[u16]) -> usize
     }
 }
 
-/// The string descriptor of a text in UTF-16 (section 9.6.7), at most 254 bytes. A longer text is cut at a character.
-pub fn string_descriptor(text: &[u16]) -> ArrayVec<u8, 254>
-    ensures { result.items ≡ string_descriptor text.now }
+/// Byte `place` of the string descriptor that holds these units.
+#[tactic(auto, using(crate::proofs::Places::byte_behind_head))]
+fn byte_at(units: &[u16], place: usize) -> u8
+    requires fits { length units.now ≤ 126 }
+    requires there { place < 2 + 2 * length units.now }
+    ensures { result ≡ slice_index ((2 + 2 * length units.now) ∷ 3 ∷ flat_map unit_bytes units.now) place }
 {
-    let count = held_count(text);
-    let units = &text[..count];
+    match place {
+        0 => 2 + 2 * units.len() as u8,
+        1 => STRING,
+        _ => units[place / 2 - 1].to_le_bytes()[place % 2],
+    }
+}
+
+/// The bytes from `start` to `end` of the string descriptor that holds these units.
+fn bytes_between(units: &[u16], start: usize, end: usize) -> ArrayVec<u8, 8>
+    requires fits { length units.now ≤ 126 }
+    requires in_order { start ≤ end }
+    requires room { end ≤ start + 8 }
+    requires there { end ≤ 2 + 2 * length units.now }
+    ensures { result.items ≡ take (end - start) (drop start ((2 + 2 * length units.now) ∷ 3 ∷ flat_map unit_bytes units.now)) }
+{
     let mut bytes = ArrayVec::new();
-    let _full = bytes.try_extend_from_slice(&[2 + 2 * count as u8, STRING]);
-    for unit in units {
-        let _full = bytes.try_extend_from_slice(&[(*unit % 256) as u8, (*unit / 256) as u8]);
+    for place in start..end {
+        let _full = bytes.try_push(byte_at(units, place));
     }
     bytes
+}
+
+/// Packet `index` of a read of a text's string descriptor (section 9.6.7), of which `asked` bytes were asked for. Of a text that
+/// is longer than 126 units, as many whole characters are sent as these hold.
+pub(crate) fn packet_of_text(text: &[u16], asked: u16, index: u16) -> Option<ArrayVec<u8, 8>>
+    ensures packet { option_map (λ packet. packet.items) result ≡ packet_at (string_descriptor text.now) asked index }
+    ensures in_data { OnSome result (8 * index ≤ asked) }
+{
+    let asked = usize::from(asked);
+    let units = &text[..held_count(text)];
+    let sent = (2 + 2 * units.len()).min(asked);
+    let start = 8 * usize::from(index);
+    if start < sent {
+        Some(bytes_between(units, start, sent.min(start + 8)))
+    } else if start == sent && sent < asked {
+        Some(ArrayVec::new())
+    } else {
+        None
+    }
 }

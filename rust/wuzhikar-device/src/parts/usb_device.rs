@@ -51,7 +51,6 @@ pub use endpoints::Endpoints;
 pub use forgetting::Forgetting;
 pub use guarded::{Guarded, ScansMatrix};
 pub use report_buffers::ReportBuffers;
-pub use strings::string_descriptor;
 pub use usb_device::UsbDevice;
 pub use whole_reads::{ReadBytes, read};
 pub use whole_transfers::{Status, TransferError, Works, data_status_of, status_of, write};

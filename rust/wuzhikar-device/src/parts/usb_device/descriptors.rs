@@ -2,7 +2,7 @@
 //! The descriptors that a maker lends, and the bytes of a read.
 
 use crate::parts::usb_device::packets::packet_at;
-use crate::parts::usb_device::strings::string_descriptor;
+use crate::parts::usb_device::strings::packet_of_text;
 use arrayvec::ArrayVec;
 
 /// The descriptors that a maker lends: three that are finished, and names in UTF-16, of which an empty one is none.
@@ -56,7 +56,7 @@ impl<'a> Data<'a> {
     pub(crate) fn packet_at(&self, asked: u16, index: u16) -> Option<ArrayVec<u8, 8>> {
         match self {
             Data::Lent(bytes) => packet_at(bytes, asked, index),
-            Data::Text(text) => packet_at(string_descriptor(text).as_slice(), asked, index),
+            Data::Text(text) => packet_of_text(text, asked, index),
             Data::Copied(bytes) => packet_at(bytes.as_slice(), asked, index),
         }
     }

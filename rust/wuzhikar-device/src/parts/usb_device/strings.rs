@@ -25,14 +25,36 @@ fn held_count(units: &[u16]) -> usize {
     }
 }
 
-/// The string descriptor of a text in UTF-16 (section 9.6.7), at most 254 bytes. A longer text is cut at a character.
-pub fn string_descriptor(text: &[u16]) -> ArrayVec<u8, 254> {
-    let count = held_count(text);
-    let units = &text[..count];
+/// Byte `place` of the string descriptor that holds these units.
+fn byte_at(units: &[u16], place: usize) -> u8 {
+    match place {
+        0 => 2 + 2 * units.len() as u8,
+        1 => STRING,
+        _ => units[place / 2 - 1].to_le_bytes()[place % 2],
+    }
+}
+
+/// The bytes from `start` to `end` of the string descriptor that holds these units.
+fn bytes_between(units: &[u16], start: usize, end: usize) -> ArrayVec<u8, 8> {
     let mut bytes = ArrayVec::new();
-    let _full = bytes.try_extend_from_slice(&[2 + 2 * count as u8, STRING]);
-    for unit in units {
-        let _full = bytes.try_extend_from_slice(&[(*unit % 256) as u8, (*unit / 256) as u8]);
+    for place in start..end {
+        let _full = bytes.try_push(byte_at(units, place));
     }
     bytes
+}
+
+/// Packet `index` of a read of a text's string descriptor (section 9.6.7), of which `asked` bytes were asked for. Of a text that
+/// is longer than 126 units, as many whole characters are sent as these hold.
+pub(crate) fn packet_of_text(text: &[u16], asked: u16, index: u16) -> Option<ArrayVec<u8, 8>> {
+    let asked = usize::from(asked);
+    let units = &text[..held_count(text)];
+    let sent = (2 + 2 * units.len()).min(asked);
+    let start = 8 * usize::from(index);
+    if start < sent {
+        Some(bytes_between(units, start, sent.min(start + 8)))
+    } else if start == sent && sent < asked {
+        Some(ArrayVec::new())
+    } else {
+        None
+    }
 }
