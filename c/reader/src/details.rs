@@ -3,7 +3,7 @@
 
 use crate::calls::Range;
 use crate::edge::{Input, Output, Outputs, Places};
-use crate::handles::{Entry, Error, TABLE, both, kind_of, number_of, of_reader, put_of, tell, told};
+use crate::handles::{Entry, Error, TABLE, both, kind_of, number_of, of_reader, put_list, put_of, tell, told};
 use crate::status::Status;
 use core::ffi::c_char;
 use core::fmt;
@@ -167,13 +167,9 @@ pub extern "C" fn hidr_detail_of(reader: u64, field: usize, item: Output<usize>)
 
 #[unsafe(no_mangle)]
 pub extern "C" fn hidr_around(reader: u64, item: usize, into: Outputs<u32>, room: usize, count: Output<usize>) -> Status {
-    told(|| {
-        let (count, into) = (count.place()?, into.places(room)?);
-        of_reader(reader, |reader| {
-            reader.details().fields.get(item).ok_or(Status::Absent)?;
-            count.put(into.put_all(reader.details().around(item).map(|outer| place(Some(outer)))));
-            Ok(())
-        })
+    put_list(reader, (into, room, count), |reader, into| {
+        reader.details().fields.get(item).ok_or(Status::Absent)?;
+        Ok(into.put_all(reader.details().around(item).map(|outer| place(Some(outer)))))
     })
 }
 
@@ -198,12 +194,8 @@ pub extern "C" fn hidr_collection_at(reader: u64, collection: usize, into: Outpu
 
 #[unsafe(no_mangle)]
 pub extern "C" fn hidr_applications(reader: u64, into: Outputs<u32>, room: usize, count: Output<usize>) -> Status {
-    told(|| {
-        let (count, into) = (count.place()?, into.places(room)?);
-        of_reader(reader, |reader| {
-            count.put(into.put_all(reader.details().applications().map(|(found, _)| place(Some(found)))));
-            Ok(())
-        })
+    put_list(reader, (into, room, count), |reader, into| {
+        Ok(into.put_all(reader.details().applications().map(|(found, _)| place(Some(found)))))
     })
 }
 
@@ -216,12 +208,8 @@ fn report_out(reader: &Reader, kind: wuzhikar_hid::Kind, id: u32) -> ReportOut {
 
 #[unsafe(no_mangle)]
 pub extern "C" fn hidr_reports(reader: u64, into: Outputs<ReportOut>, room: usize, count: Output<usize>) -> Status {
-    told(|| {
-        let (count, into) = (count.place()?, into.places(room)?);
-        of_reader(reader, |reader| {
-            count.put(into.put_all(reader.details().reports().map(|report| report_out(reader, report.kind, report.id))));
-            Ok(())
-        })
+    put_list(reader, (into, room, count), |reader, into| {
+        Ok(into.put_all(reader.details().reports().map(|report| report_out(reader, report.kind, report.id))))
     })
 }
 
@@ -233,14 +221,10 @@ pub extern "C" fn hidr_reports_of(
     room: usize,
     count: Output<usize>,
 ) -> Status {
-    told(|| {
-        let (count, into) = (count.place()?, into.places(room)?);
-        of_reader(reader, |reader| {
-            let told = reader.details();
-            told.collections.get(application).filter(|found| found.is_application()).ok_or(Status::Absent)?;
-            count.put(into.put_all(told.reports_of(application).map(|(kind, id)| report_out(reader, kind, id))));
-            Ok(())
-        })
+    put_list(reader, (into, room, count), |reader, into| {
+        let told = reader.details();
+        told.collections.get(application).filter(|found| found.is_application()).ok_or(Status::Absent)?;
+        Ok(into.put_all(told.reports_of(application).map(|(kind, id)| report_out(reader, kind, id))))
     })
 }
 
@@ -253,14 +237,10 @@ pub extern "C" fn hidr_applications_of(
     room: usize,
     count: Output<usize>,
 ) -> Status {
-    told(|| {
-        let (count, into) = (count.place()?, into.places(room)?);
-        of_reader(reader, |reader| {
-            let (told, id) = (reader.details(), id.into());
-            let kind = kind_of(kind).filter(|kind| told.report(*kind, id).next().is_some()).ok_or(Status::Absent)?;
-            count.put(into.put_all(told.applications_of(kind, id).map(|(found, _)| place(Some(found)))));
-            Ok(())
-        })
+    put_list(reader, (into, room, count), |reader, into| {
+        let (told, id) = (reader.details(), id.into());
+        let kind = kind_of(kind).filter(|kind| told.report(*kind, id).next().is_some()).ok_or(Status::Absent)?;
+        Ok(into.put_all(told.applications_of(kind, id).map(|(found, _)| place(Some(found)))))
     })
 }
 
@@ -273,15 +253,11 @@ pub extern "C" fn hidr_report_details(
     room: usize,
     count: Output<usize>,
 ) -> Status {
-    told(|| {
-        let (count, into) = (count.place()?, into.places(room)?);
-        of_reader(reader, |reader| {
-            let kind = kind_of(kind).ok_or(Status::Absent)?;
-            let mut items = reader.details().report(kind, id.into()).map(|found| place(Some(found.place))).peekable();
-            items.peek().ok_or(Status::Absent)?;
-            count.put(into.put_all(items));
-            Ok(())
-        })
+    put_list(reader, (into, room, count), |reader, into| {
+        let kind = kind_of(kind).ok_or(Status::Absent)?;
+        let mut items = reader.details().report(kind, id.into()).map(|found| place(Some(found.place))).peekable();
+        items.peek().ok_or(Status::Absent)?;
+        Ok(into.put_all(items))
     })
 }
 
@@ -293,13 +269,9 @@ fn put_names(
     count: Output<usize>,
     names: impl FnOnce(&Details) -> Option<&[(u32, u32)]>,
 ) -> Status {
-    told(|| {
-        let (count, into) = (count.place()?, into.places(room)?);
-        of_reader(reader, |reader| {
-            let ranges = names(reader.details()).ok_or(Status::Absent)?;
-            count.put(into.put_all(ranges.iter().map(|(first, last)| Range::new(*first, *last))));
-            Ok(())
-        })
+    put_list(reader, (into, room, count), |reader, into| {
+        let ranges = names(reader.details()).ok_or(Status::Absent)?;
+        Ok(into.put_all(ranges.iter().map(|(first, last)| Range::new(*first, *last))))
     })
 }
 

@@ -1,7 +1,7 @@
 // SPDX-License-Identifier: MIT OR Apache-2.0
 //! What handles stand for, and what all calls share.
 
-use crate::edge::{Output, Place};
+use crate::edge::{Output, Outputs, Place, Places};
 use crate::status::Status;
 use crate::table::Table;
 use wuzhikar_hid::Reader;
@@ -94,6 +94,35 @@ pub fn put_of<R: Copy>(reader: u64, into: Output<R>, make: impl FnOnce(&Reader) 
     told(|| {
         let into = into.place()?;
         into.put(of_reader(reader, make)?);
+        Ok(())
+    })
+}
+
+/// Puts what a call has of a reader into the places for it, and how many there are.
+pub fn put_list<T: Copy>(
+    reader: u64,
+    (into, room, count): (Outputs<T>, usize, Output<usize>),
+    put: impl FnOnce(&Reader, Places<T>) -> Result<usize, Status>,
+) -> Status {
+    told(|| {
+        let (count, into) = (count.place()?, into.places(room)?);
+        count.put(of_reader(reader, |reader| put(reader, into))?);
+        Ok(())
+    })
+}
+
+/// The same of what a call makes of a reader and of bytes that are given.
+pub fn put_made<T: Copy>(
+    reader: u64,
+    given: Result<&[u8], Status>,
+    (into, room, count): (Outputs<T>, usize, Output<usize>),
+    make: impl FnOnce(&Reader, &[u8]) -> Result<Vec<T>, Status>,
+) -> Status {
+    told(|| {
+        let count = count.place()?;
+        let (into, given) = both(into.places(room), given)?;
+        let made = of_reader(reader, |reader| make(reader, given))?;
+        count.put(into.put_all(made.into_iter()));
         Ok(())
     })
 }

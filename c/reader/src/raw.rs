@@ -2,7 +2,7 @@
 //! The calls of `hid_reader.h` that write whatever the extents are, and that take all controls of one usage.
 
 use crate::edge::{Input, Output, Outputs, Shared};
-use crate::handles::{both, kind_of, kind_of_report, of_reader, told};
+use crate::handles::{both, kind_of, kind_of_report, of_reader, put_made, told};
 use crate::status::Status;
 use crate::values::{bytes_at, write};
 use wuzhikar_hid::{Asked, RawError, Setting, Target};
@@ -64,14 +64,8 @@ pub extern "C" fn hidr_raw_report(
     room: usize,
     length: Output<usize>,
 ) -> Status {
-    told(|| {
-        let length = length.place()?;
-        let (into, bytes) = both(into.places(room), bytes.bytes(count))?;
-        let report = of_reader(reader, |reader| {
-            reader.raw_report(kind_of(kind).ok_or(Status::UnknownReport)?, id, bytes).map_err(why)
-        })?;
-        length.put(into.put_all(report.into_iter()));
-        Ok(())
+    put_made(reader, bytes.bytes(count), (into, room, length), |reader, bytes| {
+        reader.raw_report(kind_of(kind).ok_or(Status::UnknownReport)?, id, bytes).map_err(why)
     })
 }
 
@@ -86,12 +80,8 @@ pub extern "C" fn hidr_read_all(
     room: usize,
     count: Output<usize>,
 ) -> Status {
-    told(|| {
-        let count = count.place()?;
-        let (into, report) = both(into.places(room), report.bytes(length))?;
-        let values = of_reader(reader, |reader| Ok(reader.read_all(kind_of_report(kind, report)?, report, usage)?))?;
-        count.put(into.put_all(values.into_iter()));
-        Ok(())
+    put_made(reader, report.bytes(length), (into, room, count), |reader, report| {
+        Ok(reader.read_all(kind_of_report(kind, report)?, report, usage)?)
     })
 }
 

@@ -3,7 +3,7 @@
 
 use crate::details::{place, put_text};
 use crate::edge::{Input, Output, Outputs};
-use crate::handles::{both, kind_of, kind_of_report, of_reader, put_of, told};
+use crate::handles::{both, kind_of, kind_of_report, of_reader, put_made, put_of, told};
 use crate::status::Status;
 use core::ffi::c_char;
 use core::mem::offset_of;
@@ -135,12 +135,8 @@ pub extern "C" fn hidr_buffered(
     room: usize,
     count: Output<usize>,
 ) -> Status {
-    told(|| {
-        let count = count.place()?;
-        let (into, report) = both(into.places(room), report.bytes(length))?;
-        let bytes = of_reader(reader, |reader| Ok(reader.buffered(kind_of_report(kind, report)?, report, field)?))?;
-        count.put(into.put_all(bytes.into_iter()));
-        Ok(())
+    put_made(reader, report.bytes(length), (into, room, count), |reader, report| {
+        Ok(reader.buffered(kind_of_report(kind, report)?, report, field)?)
     })
 }
 

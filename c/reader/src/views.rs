@@ -2,7 +2,7 @@
 //! The calls of `hid_reader.h` that say what a device is, in a report of it.
 
 use crate::edge::{Input, Output, Outputs, Place};
-use crate::handles::{both, of_reader, told};
+use crate::handles::{both, of_reader, put_made, told};
 use crate::status::Status;
 use wuzhikar_hid::{Axis, Contact, Pad, Pen, Reader, ReadingError};
 
@@ -163,22 +163,6 @@ fn one<T: Copy>(
     })
 }
 
-/// A view of several.
-fn several<T: Copy>(
-    reader: u64,
-    report: Result<&[u8], Status>,
-    (into, room, count): (Outputs<T>, usize, Output<usize>),
-    view: impl FnOnce(&Reader, &[u8]) -> Result<Vec<T>, ReadingError>,
-) -> Status {
-    told(|| {
-        let count = count.place()?;
-        let (into, report) = both(into.places(room), report)?;
-        let found = of_reader(reader, |reader| Ok(view(reader, report)?))?;
-        count.put(into.put_all(found.into_iter()));
-        Ok(())
-    })
-}
-
 #[unsafe(no_mangle)]
 pub extern "C" fn hidr_view_keys(
     reader: u64,
@@ -190,7 +174,7 @@ pub extern "C" fn hidr_view_keys(
     is_error: Output<u8>,
 ) -> Status {
     let mut failed = 0;
-    let status = several(reader, report.bytes(length), (into, room, count), |reader, report| {
+    let status = put_made(reader, report.bytes(length), (into, room, count), |reader, report| {
         let keys = reader.keys(report)?;
         failed = keys.is_error.into();
         Ok(keys.down)
@@ -224,7 +208,7 @@ pub extern "C" fn hidr_view_touch(
     room: usize,
     count: Output<usize>,
 ) -> Status {
-    several(reader, report.bytes(length), (into, room, count), |reader, report| {
+    put_made(reader, report.bytes(length), (into, room, count), |reader, report| {
         Ok(reader.touch(report)?.contacts.into_iter().map(contact_out).collect())
     })
 }
@@ -238,7 +222,7 @@ pub extern "C" fn hidr_view_pens(
     room: usize,
     count: Output<usize>,
 ) -> Status {
-    several(reader, report.bytes(length), (into, room, count), |reader, report| {
+    put_made(reader, report.bytes(length), (into, room, count), |reader, report| {
         Ok(reader.pens(report)?.into_iter().map(pen_out).collect())
     })
 }
