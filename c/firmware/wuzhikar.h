@@ -255,7 +255,7 @@ typedef struct wz_identity {
     wz_name manufacturer, product, serial_number; /* iManufacturer, iProduct, iSerialNumber (USB 2.0 section 9.6.1) */
     uint16_t vendor_id, product_id;               /* idVendor, idProduct; 1209h and 1 are for tests */
     uint16_t release;                             /* bcdDevice: 0123h is release 1.23 */
-    uint16_t milliamperes;                        /* bMaxPower (section 9.6.3): 2 to 500 */
+    uint16_t milliamperes;                        /* bMaxPower (section 9.6.3): 2 to 500, an odd one rounded up */
     uint8_t packet_size;                          /* wMaxPacketSize of endpoint 1 (section 9.6.6): 8, 16, 32 or 64 bytes */
     uint8_t interval;                             /* bInterval (section 9.6.6): 1 to 255 ms */
     uint8_t remote_wakeup;                        /* other than 0: the keyboard can wake its host (section 9.6.3) */
