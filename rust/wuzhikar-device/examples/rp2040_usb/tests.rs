@@ -33,6 +33,8 @@ fn a_setup_packet_before_a_reset_is_gone() {
         let is_last = resets >> (length - 1) & 1 == 0;
         assert_eq!((met.reset, met.setup.is_some()), (resets != 0, is_last), "{resets:b} of {length}, revision {revision}");
         assert_eq!(Rp2040Usb(&rp2040).waiting().setup, None);
+        // A buffer is taken back in each way from then on as before.
+        assert_eq!(wire.borrow().registers.word(NOTES), if revision == 2 { ABORTS } else { 0 });
     }
 }
 
