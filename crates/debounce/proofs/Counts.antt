@@ -1,10 +1,11 @@
--- A count to five in three bits, and what one more sample makes of it.
-use Rattle.std.proofs.Common.{◌≡◌, ℕ, zero, suc, ◌+◌, ◌-◌, ◌<◌, ◌≤◌, ◌%◌, ◌==◌, ◌⊎◌, min, max, not, Bool, true, false, List, [], ◌∷◌, refl, arith, ◌∙◌, sym, subst, nat_le, inl, inr}
+-- The two counts of a key, of equal samples and of unlike ones, and what one more sample makes of them.
+use Rattle.std.proofs.Common.{◌≡◌, ℕ, zero, suc, ◌+◌, ◌-◌, ◌<◌, ◌≤◌, ◌%◌, ◌==◌, min, max, not, Bool, true, false, List, [], ◌∷◌, refl, arith, ◌∙◌, sym, ap, nat_le, inl, inr}
 use Rattle.std.specs.Int.{bit_at}
 use Rattle.std.proofs.lemmas.Bool.{cases_lt}
 use Rattle.std.proofs.lemmas.Bool.Decides.{nat_tests}
 use Rattle.debounce.specs.Samples.{run_of, debounced, equal_latest}
-use Rattle.debounce.specs.representation.Rows.{KeyBits, KeyRefines}
+use Rattle.debounce.specs.representation.Counted.{IsCounted}
+use Rattle.debounce.specs.representation.Rows.{KeyBits, KeyRefines, unlike}
 
 pub le_test : (a b : ℕ) → a ≤ b → nat_le a b ≡ true
 le_test a b l = grind (arith, nat_tests)
@@ -61,13 +62,6 @@ starts_again =
     (record { first = refl; second = refl; third = refl })
     (record { first = refl; second = refl; third = refl })
 
--- the count is five where bits 0 and 2 are set
-five_bits : min (bit_at 5 0) (bit_at 5 2) ≡ 1
-five_bits = refl
-
-fewer_bits : (n : ℕ) → n ≤ 5 → (n < 5 → min (bit_at n 0) (bit_at n 2) ≡ 0)
-fewer_bits = to_five (λ n. n < 5 → min (bit_at n 0) (bit_at n 2) ≡ 0) (λ l. refl) (λ l. refl) (λ l. refl) (λ l. refl) (λ l. refl) (λ l. absurd (omega arith))
-
 -- the count of the latest equal samples
 pub equal_latest-run : (x : Bool) (past : List Bool) → run_of (not x) past ≡ 0 → equal_latest past ≡ min 5 (run_of x past)
 unfolding equal_latest
@@ -109,107 +103,156 @@ pub debounced_short : (x : Bool) (past : List Bool) → run_of x (x ∷ past) < 
 unfolding debounced
 debounced_short x past l = rw (gt_test 5 (run_of x (x ∷ past)) l) refl
 
--- the bit of a sample
-abbrev pub bit_of : Bool → ℕ
-bit_of true = 1
-bit_of false = 0
+-- ---- equal samples
 
-bit_of-test : (x : Bool) → (bit_of x == 1) ≡ x
-bit_of-test true = refl
-bit_of-test false = refl
-
--- the bit of a debounced value after a sample with this bit
-abbrev pub down_after : ℕ → ℕ → ℕ → ℕ
-down_after down sample decided = max (min down (1 - decided)) (min sample decided)
-
-down_kept : (d s : ℕ) → down_after d s 0 ≡ min d 1
-down_kept d s = omega arith
-
-down_taken : (d s : ℕ) → down_after d s 1 ≡ min s 1
-down_taken d s = omega arith
-
-bit_min : (n : ℕ) → n < 2 → min n 1 ≡ n
-bit_min n l = omega arith
-
-bit_of-min : (x : Bool) → (min (bit_of x) 1 == 1) ≡ x
-bit_of-min true = refl
-bit_of-min false = refl
-
-down_is : (x : Bool) (past : List Bool) (d ones fours : ℕ) → d < 2 → ones ≡ bit_at (equal_latest (x ∷ past)) 0 → fours ≡ bit_at (equal_latest (x ∷ past)) 2 → (d == 1) ≡ debounced past
-    → (down_after d (bit_of x) (min ones fours) == 1) ≡ debounced (x ∷ past)
-down_is x past d ones fours l o f was =
-    elim (cases_lt (run_of x past + 1) 5) [
-      | inl short ↦ (
-          let n : equal_latest (x ∷ past) ≤ 5 = equal_latest-le (x ∷ past) in
-          let m : equal_latest (x ∷ past) < 5 = omega (arith, equal_latest-cons x past) in
-          let none : min ones fours ≡ 0 = rw (o, f) (fewer_bits (equal_latest (x ∷ past)) n m) in
-          rw (none, down_kept d (bit_of x), bit_min d l) (was ∙ sym (debounced_short x past (rw (run_of-same x past) short))))
-      | inr full ↦ (
-          let five : equal_latest (x ∷ past) ≡ 5 = equal_latest-cons x past ∙ (omega arith) in
-          let one : min ones fours ≡ 1 = rw (o, f, five) refl in
-          rw (one, down_taken d (bit_of x)) (bit_of-min x ∙ sym (debounced_run x (x ∷ past) (rw (run_of-same x past) full))))
-    ]
-
--- a key after one sample more
-abbrev pub after : KeyBits → ℕ → ℕ → KeyBits
-after key sample changed = record {
-  ones = ones_after key.ones key.fours changed;
-  twos = twos_after key.ones key.twos key.fours changed;
-  fours = fours_after key.ones key.twos key.fours changed;
-  last = sample;
-  down = down_after key.down sample (min (ones_after key.ones key.fours changed) (fours_after key.ones key.twos key.fours changed));
-}
-
-other_of : (b : ℕ) (x : Bool) (past : List Bool) → (b == 1) ≡ x → run_of (not (b == 1)) (x ∷ past) ≡ 0
-other_of b x past e = subst (λ (y : Bool). run_of (not y) (x ∷ past) ≡ 0) (sym e) (run_of-other x past)
-
-refines_after : (x : Bool) (past : List Bool) (key : KeyBits) (changed : ℕ) → key.down < 2 → KeyRefines past key
-    → IsCount (equal_latest (x ∷ past)) (ones_after key.ones key.fours changed) (twos_after key.ones key.twos key.fours changed) (fours_after key.ones key.twos key.fours changed)
-    → KeyRefines (x ∷ past) (after key (bit_of x) changed)
-refines_after x past key changed l h c = record {
-  other = other_of (bit_of x) x past (bit_of-test x);
-  ones = c.first;
-  twos = c.second;
-  fours = c.third;
-  down = down_is x past key.down _ _ l c.first c.third h.down;
-}
-
-after_same : (x : Bool) (past : List Bool) (key : KeyBits) → key.last ≡ bit_of x → key.down < 2 → KeyRefines past key → KeyRefines (x ∷ past) (after key (bit_of x) 0)
-after_same x past key e l h =
-    let none : run_of (not x) past ≡ 0 = rw (e, bit_of-test x) at h.other in
+more : (x : Bool) (past : List Bool) (latest : Bool) (ones twos fours : ℕ) → x ≡ latest → IsCounted past latest ones twos fours
+    → IsCounted (x ∷ past) x (ones_after ones fours 0) (twos_after ones twos fours 0) (fours_after ones twos fours 0)
+more x past latest ones twos fours e h =
+    let none : run_of (not x) past ≡ 0 = rw e h.other in
     let n : equal_latest (x ∷ past) ≡ min 5 (equal_latest past + 1) = omega (arith, equal_latest-cons x past, equal_latest-run x past none) in
-    refines_after x past key 0 l h (rw (n, h.ones, h.twos, h.fours) (counts_up (equal_latest past) (equal_latest-le past)))
+    let c = counts_up (equal_latest past) (equal_latest-le past) in
+    rw (h.ones, h.twos, h.fours) (record { other = run_of-other x past; ones = rw n c.first; twos = rw n c.second; fours = rw n c.third })
+
+again : (x : Bool) (past : List Bool) (latest : Bool) (ones twos fours : ℕ) → x ≡ not latest → IsCounted past latest ones twos fours
+    → IsCounted (x ∷ past) x (ones_after ones fours 1) (twos_after ones twos fours 1) (fours_after ones twos fours 1)
+again x past latest ones twos fours e h =
+    let none : run_of x past ≡ 0 = rw e h.other in
+    let n : equal_latest (x ∷ past) ≡ 1 = omega (arith, equal_latest-cons x past) in
+    let c = starts_again (equal_latest past) (equal_latest-le past) in
+    rw (h.ones, h.twos, h.fours) (record { other = run_of-other x past; ones = rw n c.first; twos = rw n c.second; fours = rw n c.third })
+
+-- with the bits of two samples
+pub counted-after : (past : List Bool) (s l ones twos fours : ℕ) → s < 2 → l < 2 → IsCounted past (l == 1) ones twos fours
+    → IsCounted ((s == 1) ∷ past) (s == 1) (ones_after ones fours ((s + l) % 2)) (twos_after ones twos fours ((s + l) % 2)) (fours_after ones twos fours ((s + l) % 2))
+counted-after past s l ones twos fours =
+    let P : ℕ → ℕ → Type 0 = λ s l. IsCounted past (l == 1) ones twos fours
+    → IsCounted ((s == 1) ∷ past) (s == 1) (ones_after ones fours ((s + l) % 2)) (twos_after ones twos fours ((s + l) % 2)) (fours_after ones twos fours ((s + l) % 2)) in
+    λ ls ll. below_two (λ s. P s l)
+    (below_two (λ l. P 0 l) (more false past false ones twos fours refl) (again false past true ones twos fours refl) l ll)
+    (below_two (λ l. P 1 l) (again true past false ones twos fours refl) (more true past true ones twos fours refl) l ll) s ls
+
+-- ---- unlike samples
+
+not_self : (x : Bool) → x ≡ not x → ⊥
+not_self true e = cc
+not_self false e = cc
 
 twice : (x : Bool) → not (not x) ≡ x
 twice true = refl
 twice false = refl
 
-after_change : (x : Bool) (past : List Bool) (key : KeyBits) → key.last ≡ bit_of (not x) → key.down < 2 → KeyRefines past key → KeyRefines (x ∷ past) (after key (bit_of x) 1)
-after_change x past key e l h =
-    let back : not (not x) ≡ x = twice x in
-    let none : run_of x past ≡ 0 = rw (e, bit_of-test (not x), back) at h.other in
-    let n : equal_latest (x ∷ past) ≡ 1 = omega (arith, equal_latest-cons x past) in
-    refines_after x past key 1 l h (rw (n, h.ones, h.twos, h.fours) (starts_again (equal_latest past) (equal_latest-le past)))
+unlike-le : (past : List Bool) → unlike past ≤ 4
+unlike-le past = elim (cases_lt (unlike past) 5) [
+  | inl l ↦ omega arith
+  | inr m ↦ absurd (not_self (debounced past) (debounced_run (not (debounced past)) past m))
+]
 
-zero_or_one : (n : ℕ) → n < 2 → (n ≡ 0) ⊎ (n ≡ 1)
-zero_or_one = below_two (λ n. (n ≡ 0) ⊎ (n ≡ 1)) (inl refl) (inr refl)
+-- a sample like the value
+like-debounced : (x : Bool) (past : List Bool) → debounced past ≡ x → debounced (x ∷ past) ≡ x
+like-debounced x past e = elim (cases_lt (run_of x (x ∷ past)) 5) [
+  | inl short ↦ debounced_short x past short ∙ e
+  | inr full ↦ debounced_run x (x ∷ past) full
+]
 
-up : (past : List Bool) (key : KeyBits) → key.last < 2 → key.down < 2 → KeyRefines past key → KeyRefines (false ∷ past) (after key 0 ((0 + key.last) % 2))
-up past key l d h =
-    elim (zero_or_one key.last l) [
-      | inl e ↦ (let n : (0 + key.last) % 2 ≡ 0 = omega (arith, e) in rw n (after_same false past key e d h))
-      | inr e ↦ (let n : (0 + key.last) % 2 ≡ 1 = omega (arith, e) in rw n (after_change false past key e d h))
-    ]
+like-none : (x : Bool) (past : List Bool) → debounced past ≡ x → unlike (x ∷ past) ≡ 0
+like-none x past e = ap (λ (y : Bool). run_of (not y) (x ∷ past)) (like-debounced x past e) ∙ run_of-other x past
 
-pressed : (past : List Bool) (key : KeyBits) → key.last < 2 → key.down < 2 → KeyRefines past key → KeyRefines (true ∷ past) (after key 1 ((1 + key.last) % 2))
-pressed past key l d h =
-    elim (zero_or_one key.last l) [
-      | inl e ↦ (let n : (1 + key.last) % 2 ≡ 1 = omega (arith, e) in rw n (after_change true past key e d h))
-      | inr e ↦ (let n : (1 + key.last) % 2 ≡ 0 = omega (arith, e) in rw n (after_same true past key e d h))
-    ]
+like : (x : Bool) (past : List Bool) (down : ℕ) → (down == 1) ≡ x → debounced past ≡ x
+    → KeyRefines (x ∷ past) (record { first = 0; second = 0; third = 0; down = down })
+like x past down d e =
+    let n = like-none x past e in
+    record { first = rw n refl; second = rw n refl; third = rw n refl; down = d ∙ sym (like-debounced x past e) }
+
+-- an unlike one
+abbrev pub first_after : ℕ → ℕ → ℕ
+first_after third unlike = min unlike (1 - third)
+
+abbrev pub second_after : ℕ → ℕ → ℕ
+second_after first unlike = min unlike first
+
+abbrev pub third_after : ℕ → ℕ → ℕ → ℕ
+third_after first second unlike = min (min unlike first) second
+
+abbrev pub fifth : ℕ → ℕ → ℕ → ℕ
+fifth first second unlike = min (min unlike second) (1 - first)
+
+abbrev pub after : KeyBits → ℕ → KeyBits
+after key unlike = record {
+  first = first_after key.third unlike;
+  second = second_after key.first unlike;
+  third = third_after key.first key.second unlike;
+  down = (key.down + fifth key.first key.second unlike) % 2;
+}
+
+record IsNext (n m f : ℕ) : Type 0 where
+  pub first : first_after (bit_at 0b11000 n) 1 ≡ bit_at 0b01110 m
+  pub second : second_after (bit_at 0b01110 n) 1 ≡ bit_at 0b11100 m
+  pub third : third_after (bit_at 0b01110 n) (bit_at 0b11100 n) 1 ≡ bit_at 0b11000 m
+  pub fifth : fifth (bit_at 0b01110 n) (bit_at 0b11100 n) 1 ≡ f
+
+next : (n : ℕ) → n < 4 → IsNext n (n + 1) 0
+next zero l = record { first = refl; second = refl; third = refl; fifth = refl }
+next (suc zero) l = record { first = refl; second = refl; third = refl; fifth = refl }
+next (suc (suc zero)) l = record { first = refl; second = refl; third = refl; fifth = refl }
+next (suc (suc (suc zero))) l = record { first = refl; second = refl; third = refl; fifth = refl }
+next (suc (suc (suc (suc n)))) l = absurd (omega arith)
+
+last : IsNext 4 0 1
+last = record { first = refl; second = refl; third = refl; fifth = refl }
+
+-- the value that an unlike sample leaves, and the count
+unlike-run : (x : Bool) (past : List Bool) → debounced past ≡ not x → unlike past ≡ run_of x past
+unlike-run x past e = ap (λ (y : Bool). run_of y past) (ap not e ∙ twice x)
+
+unlike-short : (x : Bool) (past : List Bool) → debounced past ≡ not x → unlike past < 4 → debounced (x ∷ past) ≡ not x
+unlike-short x past e l =
+    let n : unlike past ≡ run_of x past = unlike-run x past e in
+    debounced_short x past (rw (run_of-same x past) (omega arith)) ∙ e
+
+short-count : (x : Bool) (past : List Bool) → debounced past ≡ not x → unlike past < 4 → unlike (x ∷ past) ≡ unlike past + 1
+short-count x past e l =
+    ap (λ (y : Bool). run_of (not y) (x ∷ past)) (unlike-short x past e l) ∙ ap (λ (y : Bool). run_of y (x ∷ past)) (twice x) ∙ run_of-same x past
+    ∙ ap (λ (n : ℕ). n + 1) (sym (unlike-run x past e))
+
+unlike-full : (x : Bool) (past : List Bool) → debounced past ≡ not x → 4 ≤ unlike past → debounced (x ∷ past) ≡ x
+unlike-full x past e l =
+    let n : unlike past ≡ run_of x past = unlike-run x past e in
+    debounced_run x (x ∷ past) (rw (run_of-same x past) (omega arith))
+
+full-count : (x : Bool) (past : List Bool) → debounced past ≡ not x → 4 ≤ unlike past → unlike (x ∷ past) ≡ 0
+full-count x past e l = ap (λ (y : Bool). run_of (not y) (x ∷ past)) (unlike-full x past e l) ∙ run_of-other x past
+
+is_next : (x : Bool) (past : List Bool) (key : KeyBits) (m f : ℕ) → KeyRefines past key → unlike (x ∷ past) ≡ m → IsNext (unlike past) m f
+    → ((key.down + f) % 2 == 1) ≡ debounced (x ∷ past) → KeyRefines (x ∷ past) (after key 1)
+is_next x past key m f h e n d = rw (h.first, h.second, h.third) (record {
+  first = rw e n.first;
+  second = rw e n.second;
+  third = rw e n.third;
+  down = rw n.fifth d;
+})
+
+unlike-after : (x : Bool) (past : List Bool) (key : KeyBits) → debounced past ≡ not x → ((key.down + 0) % 2 == 1) ≡ not x → ((key.down + 1) % 2 == 1) ≡ x
+    → KeyRefines past key → KeyRefines (x ∷ past) (after key 1)
+unlike-after x past key e kept turned h = elim (cases_lt (unlike past) 4) [
+  | inl l ↦ is_next x past key (unlike past + 1) 0 h (short-count x past e l) (next (unlike past) l) (kept ∙ sym (unlike-short x past e l))
+  | inr m ↦ (let four : unlike past ≡ 4 = omega (arith, unlike-le past) in
+      is_next x past key 0 1 h (full-count x past e m) (rw four last) (turned ∙ sym (unlike-full x past e m)))
+]
+
+least : (n : ℕ) → min 0 n ≡ 0
+least n = omega arith
+
+like-after : (x : Bool) (past : List Bool) (key : KeyBits) → debounced past ≡ x → ((key.down + 0) % 2 == 1) ≡ x → KeyRefines (x ∷ past) (after key 0)
+like-after x past key e kept = rw (least (1 - key.third), least key.first, least key.second, least (1 - key.first)) (like x past ((key.down + 0) % 2) kept e)
 
 -- with the bits as the row's words have them
-pub after_sample : (past : List Bool) (key : KeyBits) (s : ℕ) → s < 2 → key.last < 2 → key.down < 2 → KeyRefines past key → KeyRefines ((s == 1) ∷ past) (after key s ((s + key.last) % 2))
+pub after_sample : (past : List Bool) (key : KeyBits) (s : ℕ) → s < 2 → key.down < 2 → KeyRefines past key → KeyRefines ((s == 1) ∷ past) (after key ((s + key.down) % 2))
 after_sample past key s =
-    let P : ℕ → Type 0 = λ s. key.last < 2 → key.down < 2 → KeyRefines past key → KeyRefines ((s == 1) ∷ past) (after key s ((s + key.last) % 2)) in
-    λ l. below_two P (up past key) (pressed past key) s l
+    let P : ℕ → ℕ → Type 0 = λ s d. key.down ≡ d → KeyRefines past key → KeyRefines ((s == 1) ∷ past) (after key ((s + d) % 2)) in
+    λ ls ld h. (let p = below_two (λ s. P s key.down)
+    (below_two (λ d. P 0 d)
+    (λ e h. like-after false past key (sym h.down ∙ rw e refl) (rw e refl))
+    (λ e h. unlike-after false past key (sym h.down ∙ rw e refl) (rw e refl) (rw e refl) h) key.down ld)
+    (below_two (λ d. P 1 d)
+    (λ e h. unlike-after true past key (sym h.down ∙ rw e refl) (rw e refl) (rw e refl) h)
+    (λ e h. like-after true past key (sym h.down ∙ rw e refl) (rw e refl)) key.down ld) s ls in p refl h)

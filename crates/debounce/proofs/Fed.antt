@@ -9,9 +9,12 @@ use Rattle.debounce.specs.declared.Scan.{Scan}
 use Rattle.debounce.specs.declared.row.Row.{Row}
 use Rattle.debounce.specs.Scans.{has}
 use Rattle.debounce.specs.Samples.{samples, down, same, equal_latest}
-use Rattle.debounce.specs.representation.Kept.{Kept, row_of, planes_of}
+use Rattle.debounce.specs.declared.row.Count.{Count}
+use Rattle.debounce.specs.representation.Kept.{Kept, row_of}
 use Rattle.debounce.specs.representation.Rows.{KeyRefines, Sampled, bits_of, parts, rows_of}
 use Rattle.debounce.specs.representation.Relation.{Refines}
+use Rattle.debounce.specs.representation.Counted.{Counted, IsCounted, Recounted, plane_bit}
+use Rattle.debounce.specs.representation.Counted as counted
 
 -- ---- the halves of a word
 
@@ -255,18 +258,35 @@ is_down_now false false f e = rw e refl
 
 -- ---- the planes
 
-by_half : (words : List ℕ) (key : ℕ) → key < 96 → bit_at (get_or (rows_of words) (key / 16) 0) (key % 16) ≡ bit_at (get_or words (key / 32) 0) (key % 32)
-by_half words key l = elim (cases_lt key 32) [
-  | inl a ↦ half_of words key 0 (get_or words 0 0) (omega arith) refl (parts_first _ _ _)
-  | inr a ↦ elim (cases_lt key 64) [
-    | inl b ↦ half_of words key 1 (get_or words 1 0) (omega arith) refl (parts_second _ _ _)
-    | inr b ↦ half_of words key 2 (get_or words 2 0) (omega arith) refl (parts_third _ _ _)
+pub planes-refine : (scans : List Scan) (kept : Counted) (plane key : ℕ) → counted.Refines scans kept → plane < 3 → key < 96
+    → plane_bit kept.planes plane key ≡ bit_at (equal_latest (samples scans key)) plane
+planes-refine scans kept zero key h p l = (h.each key l).ones
+planes-refine scans kept (suc zero) key h p l = (h.each key l).twos
+planes-refine scans kept (suc (suc zero)) key h p l = (h.each key l).fours
+planes-refine scans kept (suc (suc (suc n))) key h p l = absurd (omega arith)
+
+-- a pair of rows is counted
+pub pair-counted : (past : List Bool) (kept : Counted) (scan : Scan) (key latest sample : ℕ) (before after : Count) → Recounted before latest sample after
+    → bit_at before.ones (key % 32) ≡ plane_bit kept.planes 0 key → bit_at before.twos (key % 32) ≡ plane_bit kept.planes 1 key → bit_at before.fours (key % 32) ≡ plane_bit kept.planes 2 key
+    → bit_at latest (key % 32) ≡ bit_at (get_or kept.latest.rows (key / 16) 0) (key % 16) → bit_at sample (key % 32) ≡ bit_at (get_or scan.rows (key / 16) 0) (key % 16)
+    → IsCounted past (has kept.latest key) (plane_bit kept.planes 0 key) (plane_bit kept.planes 1 key) (plane_bit kept.planes 2 key)
+    → IsCounted (has scan key ∷ past) (has scan key) (bit_at after.ones (key % 32)) (bit_at after.twos (key % 32)) (bit_at after.fours (key % 32))
+unfolding has
+pair-counted past kept scan key latest sample before after r o t f l s h =
+    rw s at (r.each (key % 32) (omega arith) past (rw (o, t, f, l) h))
+
+-- three pairs are the planes
+pub all-counted : (P : ℕ → ℕ → ℕ → Type 0) (a b c : Count) (key : ℕ) → key < 96 → (key / 32 ≡ 0 → P (bit_at a.ones (key % 32)) (bit_at a.twos (key % 32)) (bit_at a.fours (key % 32)))
+    → (key / 32 ≡ 1 → P (bit_at b.ones (key % 32)) (bit_at b.twos (key % 32)) (bit_at b.fours (key % 32)))
+    → (key / 32 ≡ 2 → P (bit_at c.ones (key % 32)) (bit_at c.twos (key % 32)) (bit_at c.fours (key % 32)))
+    → P (bit_at (get_or (parts a.ones b.ones c.ones) (key / 16) 0) (key % 16)) (bit_at (get_or (parts a.twos b.twos c.twos) (key / 16) 0) (key % 16)) (bit_at (get_or (parts a.fours b.fours c.fours) (key / 16) 0) (key % 16))
+all-counted P a b c key l x y z = elim (cases_lt key 32) [
+  | inl m ↦ (let e : key / 32 ≡ 0 = omega arith in
+      rw (half_bit (parts a.ones b.ones c.ones) 0 a.ones key (parts_first a.ones b.ones c.ones) e, half_bit (parts a.twos b.twos c.twos) 0 a.twos key (parts_first a.twos b.twos c.twos) e, half_bit (parts a.fours b.fours c.fours) 0 a.fours key (parts_first a.fours b.fours c.fours) e) (x e))
+  | inr m ↦ elim (cases_lt key 64) [
+    | inl n ↦ (let e : key / 32 ≡ 1 = omega arith in
+        rw (half_bit (parts a.ones b.ones c.ones) 1 b.ones key (parts_second a.ones b.ones c.ones) e, half_bit (parts a.twos b.twos c.twos) 1 b.twos key (parts_second a.twos b.twos c.twos) e, half_bit (parts a.fours b.fours c.fours) 1 b.fours key (parts_second a.fours b.fours c.fours) e) (y e))
+    | inr n ↦ (let e : key / 32 ≡ 2 = omega arith in
+        rw (half_bit (parts a.ones b.ones c.ones) 2 c.ones key (parts_third a.ones b.ones c.ones) e, half_bit (parts a.twos b.twos c.twos) 2 c.twos key (parts_third a.twos b.twos c.twos) e, half_bit (parts a.fours b.fours c.fours) 2 c.fours key (parts_third a.fours b.fours c.fours) e) (z e))
   ]
 ]
-
-pub planes-refine : (scans : List Scan) (kept : Kept) (plane key : ℕ) → Refines scans kept → plane < 3 → key < 96
-    → bit_at (get_or (get_or (planes_of kept) plane []) (key / 16) 0) (key % 16) ≡ bit_at (equal_latest (samples scans key)) plane
-planes-refine scans kept zero key h p l = by_half kept.ones key l ∙ (h.each key l).ones
-planes-refine scans kept (suc zero) key h p l = by_half kept.twos key l ∙ (h.each key l).twos
-planes-refine scans kept (suc (suc zero)) key h p l = by_half kept.fours key l ∙ (h.each key l).fours
-planes-refine scans kept (suc (suc (suc n))) key h p l = absurd (omega arith)

@@ -8,7 +8,7 @@ ghost use Rattle.debounce.specs.declared.Scan.{Scan};
 
 use crate::Scan;
 use crate::matrix::Matrix;
-use crate::row::joined;
+use crate::row::{Count, joined, parts};
 use std::marker::Model;
 
 /// The keys whose value a scan changed.
@@ -40,32 +40,32 @@ impl Edges {
 #[derive(Clone, Debug, Drop)]
 pub struct Debouncer {
     matrix: Matrix,
+    latest: Scan,
     /// How many of the latest samples of a key are equal, counted to five: plane p has its bit p, at
     /// the place that the key has in a scan.
     planes: [[u16; 6]; 3],
 }
 
 impl Model for Debouncer {
-    ghost use Rattle.std.specs.Prelude.{◌≡◌};
-    ghost use Rattle.debounce.specs.representation.Kept.{Kept, planes_of};
+    ghost use Rattle.debounce.specs.representation.Counted.{Counted};
 
-    ghost Value = { Kept };
+    ghost Value = { Counted };
 
-    ghost view = { λ d. d.matrix };
-
-    ghost invariant = { λ d. d.planes ≡ planes_of d.matrix };
+    ghost view = { λ d. record { matrix = d.matrix; latest = d.latest; planes = d.planes } };
 }
 
 impl Debouncer {
-    ghost use Rattle.debounce.specs.representation.Relation.{Refines};
+    ghost use Rattle.debounce.specs.representation.Counted.{Refines, IsCounted, plane_bit};
 
     /// Makes a debouncer before its first scan: every key is up.
     pub fn new() -> Debouncer
         ensures { Refines [] result }
     {
-        let matrix = Matrix::new();
-        let planes = matrix.planes();
-        Debouncer { matrix, planes }
+        Debouncer {
+            matrix: Matrix::new(),
+            latest: Scan::NONE,
+            planes: [[0; 6]; 3],
+        }
     }
 
     /// Takes one more scan, one millisecond after the last, and answers which keys it released and
@@ -77,12 +77,44 @@ impl Debouncer {
         ensures pressed { (scans : List Scan) → Refines scans self.old → (key : ℕ) → key < 96
             → has result.pressed key ≡ (down (scan ∷ scans) key && not (down scans key)) }
     {
+        self.planes = self.counted(&scan);
+        self.latest = scan;
         let flips = self.matrix.feed(&scan);
-        self.planes = self.matrix.planes();
         Edges {
             released: self.matrix.released(&flips).scan(),
             pressed: self.matrix.pressed(&flips).scan(),
         }
+    }
+
+    /// The planes after one more scan.
+    fn counted(&self, scan: &Scan) -> [[u16; 6]; 3]
+        ensures { (scans : List Scan) → Refines scans self.now → (key : ℕ) → key < 96 → IsCounted (has scan.now key ∷ samples scans key)
+            (has scan.now key) (plane_bit result 0 key) (plane_bit result 1 key) (plane_bit result 2 key) }
+    {
+        let first = self.pair(0, scan);
+        let second = self.pair(1, scan);
+        let third = self.pair(2, scan);
+        [
+            parts(first.ones, second.ones, third.ones),
+            parts(first.twos, second.twos, third.twos),
+            parts(first.fours, second.fours, third.fours),
+        ]
+    }
+
+    /// The counts of a pair of rows after one more scan.
+    fn pair(&self, pair: usize, scan: &Scan) -> Count
+        requires { pair < 3 }
+        ensures { (scans : List Scan) → Refines scans self.now → (key : ℕ) → key / 32 ≡ pair → IsCounted (has scan.now key ∷ samples scans key)
+            (has scan.now key) (bit_at result.ones (key % 32)) (bit_at result.twos (key % 32)) (bit_at result.fours (key % 32)) }
+    {
+        let [ones, twos, fours] = &self.planes;
+        let count = Count {
+            ones: joined(ones, pair),
+            twos: joined(twos, pair),
+            fours: joined(fours, pair),
+        };
+        let latest = joined(&self.latest.rows, pair);
+        count.sampled(latest, joined(&scan.rows, pair))
     }
 
     /// Returns whether a key, one of 0 to 95, is down.

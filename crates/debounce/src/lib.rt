@@ -2,10 +2,10 @@
 //! bounces when it closes or opens, so a key takes a new value only after five equal samples in a
 //! row. One scan is one millisecond.
 //!
-//! A `Matrix` keeps of each key its latest sample, how many of the latest are equal, and whether it is
-//! down, 32 keys to a word. The guarantee is that a key has the value of the newest five equal samples in
-//! a row, and that an edge is a change of it. `key_reports` calls it at each scan. A `Debouncer` is the
-//! same by scans, and lends the planes of the counts.
+//! A `Matrix` keeps of each key whether it is down, and how many of the latest samples say otherwise, 32
+//! keys to a word. The guarantee is that a key has the value of the newest five equal samples in a row,
+//! and that an edge is a change of it. `key_reports` calls it at each scan. A `Debouncer` is the same by
+//! scans, and also counts the latest equal samples.
 #![tactic(auto)]
 
 ghost use Rattle.std.specs.Prelude.{◌≡◌, ◌/◌, ◌%◌, ◌<◌, ◌&&◌, ◌||◌, ◌==◌, ℕ, length, slice_index};

@@ -4,21 +4,19 @@ ghost use Rattle.std.specs.Prelude.{◌≡◌, ◌≢◌, ◌<◌, ◌/◌, ◌%
 ghost use Rattle.std.specs.Int.{bit_at};
 ghost use Rattle.debounce.specs.Scans.{has};
 ghost use Rattle.debounce.specs.Samples.{down, same};
-ghost use Rattle.debounce.specs.representation.Rows.{rows_of};
 ghost use Rattle.debounce.specs.declared.Scan.{Scan};
 
 use crate::Scan;
-use crate::row::{Row, joined, parts};
+use crate::row::{Row, joined};
 use crate::set::KeySet;
 use std::marker::Model;
 
 /// The value of each key, up or down, after the scans that were fed: what is kept of each pair of rows.
 #[derive(Clone, Debug, Drop)]
 pub struct Matrix {
-    ones: [u32; 3],
-    twos: [u32; 3],
-    fours: [u32; 3],
-    last: [u32; 3],
+    first: [u32; 3],
+    second: [u32; 3],
+    third: [u32; 3],
     down: [u32; 3],
 }
 
@@ -27,13 +25,13 @@ impl Model for Matrix {
 
     ghost Value = { Kept };
 
-    ghost view = { λ m. record { ones = m.ones; twos = m.twos; fours = m.fours; last = m.last; down = m.down } };
+    ghost view = { λ m. record { first = m.first; second = m.second; third = m.third; down = m.down } };
 
-    ghost invariant = { λ m. HasThreePairs (record { ones = m.ones; twos = m.twos; fours = m.fours; last = m.last; down = m.down }) };
+    ghost invariant = { λ m. HasThreePairs (record { first = m.first; second = m.second; third = m.third; down = m.down }) };
 }
 
 impl Matrix {
-    ghost use Rattle.debounce.specs.representation.Kept.{row_of, planes_of};
+    ghost use Rattle.debounce.specs.representation.Kept.{row_of};
     ghost use Rattle.debounce.specs.representation.Relation.{Refines};
 
     /// Every key up, before the first scan.
@@ -41,10 +39,9 @@ impl Matrix {
         ensures { Refines [] result }
     {
         Matrix {
-            ones: [0; 3],
-            twos: [0; 3],
-            fours: [0; 3],
-            last: [0; 3],
+            first: [0; 3],
+            second: [0; 3],
+            third: [0; 3],
             down: [0; 3],
         }
     }
@@ -73,10 +70,9 @@ impl Matrix {
         ensures { result ≡ row_of self.now pair }
     {
         Row {
-            ones: self.ones[pair],
-            twos: self.twos[pair],
-            fours: self.fours[pair],
-            last: self.last[pair],
+            first: self.first[pair],
+            second: self.second[pair],
+            third: self.third[pair],
             down: self.down[pair],
         }
     }
@@ -88,10 +84,9 @@ impl Matrix {
         ensures kept { row_of self.new pair ≡ row }
         ensures others { (other : ℕ) → other ≢ pair → row_of self.new other ≡ row_of self.old other }
     {
-        self.ones[pair] = row.ones;
-        self.twos[pair] = row.twos;
-        self.fours[pair] = row.fours;
-        self.last[pair] = row.last;
+        self.first[pair] = row.first;
+        self.second[pair] = row.second;
+        self.third[pair] = row.third;
         self.down[pair] = row.down;
     }
 
@@ -124,21 +119,6 @@ impl Matrix {
     {
         has_bit(self.down[key as usize / 32], key % 32)
     }
-
-    /// The planes of the counts, at the places that the keys have in a scan.
-    pub(crate) fn planes(&self) -> [[u16; 6]; 3]
-        ensures { result ≡ planes_of self.now }
-    {
-        [halves(&self.ones), halves(&self.twos), halves(&self.fours)]
-    }
-}
-
-/// Three words as six rows.
-fn halves(words: &[u32; 3]) -> [u16; 6]
-    ensures { result ≡ rows_of words.now }
-{
-    let [first, second, third] = words;
-    parts(*first, *second, *third)
 }
 
 /// Whether a word has a bit.

@@ -2,32 +2,30 @@
 //! What is kept of the keys from scan to scan, in words.
 
 use crate::parts::debounce::Scan;
-use crate::parts::debounce::row::{Row, joined, parts};
+use crate::parts::debounce::row::{Row, joined};
 use crate::parts::debounce::set::KeySet;
 
 /// The value of each key, up or down, after the scans that were fed: what is kept of each pair of rows.
 #[derive(Clone, Debug)]
 pub struct Matrix {
-    ones: [u32; 3],
-    twos: [u32; 3],
-    fours: [u32; 3],
-    last: [u32; 3],
+    first: [u32; 3],
+    second: [u32; 3],
+    third: [u32; 3],
     down: [u32; 3],
 }
 
 impl Matrix {
     /// Zeros, where memory waits for a keyboard to start there.
-    pub(crate) const UNSTARTED: Self = Matrix { ones: [0; 3], twos: [0; 3], fours: [0; 3], last: [0; 3], down: [0; 3] };
+    pub(crate) const UNSTARTED: Self = Matrix { first: [0; 3], second: [0; 3], third: [0; 3], down: [0; 3] };
 }
 
 impl Matrix {
     /// Every key up, before the first scan.
     pub fn new() -> Matrix {
         Matrix {
-            ones: [0; 3],
-            twos: [0; 3],
-            fours: [0; 3],
-            last: [0; 3],
+            first: [0; 3],
+            second: [0; 3],
+            third: [0; 3],
             down: [0; 3],
         }
     }
@@ -49,10 +47,9 @@ impl Matrix {
     #[inline(always)]
     fn pair(&self, pair: usize) -> Row {
         Row {
-            ones: self.ones[pair],
-            twos: self.twos[pair],
-            fours: self.fours[pair],
-            last: self.last[pair],
+            first: self.first[pair],
+            second: self.second[pair],
+            third: self.third[pair],
             down: self.down[pair],
         }
     }
@@ -60,10 +57,9 @@ impl Matrix {
     /// Keeps this of a pair of rows.
     #[inline(always)]
     fn keep(&mut self, pair: usize, row: Row) {
-        self.ones[pair] = row.ones;
-        self.twos[pair] = row.twos;
-        self.fours[pair] = row.fours;
-        self.last[pair] = row.last;
+        self.first[pair] = row.first;
+        self.second[pair] = row.second;
+        self.third[pair] = row.third;
         self.down[pair] = row.down;
     }
 
@@ -87,17 +83,6 @@ impl Matrix {
     pub(crate) fn is_down(&self, key: u8) -> bool {
         has_bit(self.down[key as usize / 32], key % 32)
     }
-
-    /// The planes of the counts, at the places that the keys have in a scan.
-    pub(crate) fn planes(&self) -> [[u16; 6]; 3] {
-        [halves(&self.ones), halves(&self.twos), halves(&self.fours)]
-    }
-}
-
-/// Three words as six rows.
-fn halves(words: &[u32; 3]) -> [u16; 6] {
-    let [first, second, third] = words;
-    parts(*first, *second, *third)
 }
 
 /// Whether a word has a bit.

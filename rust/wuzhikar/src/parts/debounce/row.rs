@@ -1,38 +1,50 @@
 // Exported from crates/debounce/src/row.rt by bin/export-rust. Edit that file instead.
 //! Two rows of 16 keys as one word, a bit of each word for each key: the first row in the low half.
 
-/// What is kept of two rows.
+/// What is kept of two rows. How many of the latest samples of a key are unlike its value, 0 to 4, stands in
+/// three bits as 000, 100, 110, 111 and 011, the first bit first.
 #[derive(Clone, Copy)]
 pub(crate) struct Row {
-    /// Bit 0 of how many of the latest samples of a key are equal, counted to five.
-    pub(crate) ones: u32,
-    /// Bit 1 of it.
-    pub(crate) twos: u32,
-    /// Bit 2 of it.
-    pub(crate) fours: u32,
-    /// The latest samples.
-    pub(crate) last: u32,
+    pub(crate) first: u32,
+    pub(crate) second: u32,
+    pub(crate) third: u32,
     /// The keys that are down.
     pub(crate) down: u32,
 }
 
+/// How many of the latest samples of each key of two rows are equal, counted to five, in binary.
+#[derive(Clone, Copy)]
+pub(crate) struct Count {
+    pub(crate) ones: u32,
+    pub(crate) twos: u32,
+    pub(crate) fours: u32,
+}
+
 impl Row {
-    /// These rows after one more sample of their keys. A count starts again at one where a sample
-    /// changes, and else rises to five; a key takes its sample where the count is five.
+    /// These rows after one more sample of their keys. A sample like the value starts the count again at
+    /// none, and the fifth in a row that is unlike it changes the value.
     #[inline(always)]
     pub(crate) fn sampled(self, sample: u32) -> Row {
-        let changed = sample ^ self.last;
-        let ones = !self.ones | self.fours | changed;
-        let twos = (self.twos ^ self.ones) & !self.fours & !changed;
-        let fours = (self.fours | (self.twos & self.ones)) & !changed;
-        let decided = ones & fours;
-        let down = self.down ^ ((self.down ^ sample) & decided);
+        let unlike = sample ^ self.down;
+        let second = unlike & self.first;
+        let fifth = unlike & self.second & !self.first;
         Row {
-            ones,
-            twos,
-            fours,
-            last: sample,
-            down,
+            first: unlike & !self.third,
+            second,
+            third: second & self.second,
+            down: self.down ^ fifth,
+        }
+    }
+}
+
+impl Count {
+    /// The counts after one more sample, which starts them again at one where it is not as the latest.
+    pub(crate) fn sampled(self, latest: u32, sample: u32) -> Count {
+        let changed = sample ^ latest;
+        Count {
+            ones: !self.ones | self.fours | changed,
+            twos: (self.twos ^ self.ones) & !self.fours & !changed,
+            fours: (self.fours | (self.twos & self.ones)) & !changed,
         }
     }
 }

@@ -3,4 +3,4 @@ use Rattle.debounce.proofs.Feeding.{none-refines}
 use Rattle.debounce.proofs.matrix.Matrix.new.Goals as goal
 
 pub returns : goal.returns
-returns c = none-refines _ refl refl refl refl refl
+returns c = none-refines _ refl refl refl refl
