@@ -1,5 +1,5 @@
 -- Whether changes may begin, and what they need.
-use Rattle.std.proofs.Common.{◌≡◌, ◌∙◌, ◌↔◌, ℕ, ◌+◌, ◌-◌, ◌<◌, ◌≤◌, refl, sym, ap, subst, arith, IsTrue, List, [], ◌∷◌, ◌++◌, length, get_or, Option, Some, None, inl, inr, IsSomeAnd, nat_le}
+use Rattle.std.proofs.Common.{◌≡◌, ◌∙◌, ◌↔◌, ℕ, ◌+◌, ◌-◌, ◌<◌, ◌≤◌, refl, sym, ap, subst, arith, IsTrue, List, [], ◌∷◌, ◌++◌, Option, Some, None, inl, inr, IsSomeAnd, nat_le}
 use Rattle.std.proofs.lemmas.Bool.{cases_lt}
 use Rattle.std.proofs.lemmas.List.{append-nil}
 use Rattle.page_turnover.specs.declared.log.ActivePage.{ActivePage}
@@ -14,11 +14,10 @@ use Rattle.page_turnover.proofs.WordLists.{words_none}
 use Rattle.page_turnover.specs.Usable.{IsUsable}
 use Rattle.settings.specs.declared.change.Change.{Change}
 use Rattle.settings.specs.declared.store.Job.TheVariants.{Appending, Turning}
-use Rattle.settings.specs.Words.{words_of}
 use Rattle.settings.specs.Settings.{changed}
 use Rattle.settings.specs.Copies.{copies_below}
 use Rattle.settings.specs.Begins.{HasRoomFor, IsAppended, alive}
-use Rattle.settings.specs.Left.{first_words, turn_left, target_of, Needs}
+use Rattle.settings.specs.Left.{turn_left, target_of, Needs}
 use Rattle.settings.specs.representation.Store.{IsAppending, IsTurn, IsSeal, AreChanges, given_words, Relation}
 use Rattle.settings.proofs.Packing.{some_words}
 use Rattle.settings.proofs.Turning.{erases_left-ready, erases_left-used}
@@ -72,22 +71,6 @@ room_test image log tail words d r t l m = (
         let s : tail ≡ h.tail = same_tail image h.page tail h.tail (rw p x) h.is_tail in
         let room = h.room in
         omega arith
-
--- one change alone
-pub one_change : (changes : List Change) (change : Change) → 1 ≤ length changes → length changes < 2 → change ≡ get_or changes 0 change → changes ≡ change ∷ []
-one_change [] change l m e = absurd (omega arith)
-one_change (first ∷ []) change l m e = rw e refl
-one_change (first ∷ second ∷ rest) change l m e = absurd (omega arith)
-
-pub appended_one : (image : List ℕ) (changes : List Change) (change : Change) → changes ≡ change ∷ [] → (IsAppended image changes → HasRoomFor image (length (words_of change))) × (HasRoomFor image (length (words_of change)) → IsAppended image changes)
-appended_one image changes change e =
-    let A : List Change → Type 0 = λ cs. (IsAppended image cs → HasRoomFor image (length (words_of change))) × (HasRoomFor image (length (words_of change)) → IsAppended image cs) in
-    subst A (sym e) (λ h. h, λ h. h)
-
-pub appended_other : (image : List ℕ) (changes : List Change) → (length changes ≡ 1 → ⊥) → IsAppended image changes → ⊥
-appended_other image [] n a = a
-appended_other image (change ∷ []) n a = n refl
-appended_other image (change ∷ other ∷ rest) n a = a
 
 -- the words of one change are next
 pub begins_append : (image : List ℕ) (changes : List Change) (log : LogValue) → Describes image log → log.task ≡ Rest → IsUsable image → AreChanges changes → IsAppended image changes → IsAppending image changes log 0
@@ -144,10 +127,6 @@ refines_turning image changes before after d e c l =
         fits = l;
       };
     }
-
--- what each of them needs
-pub needs_append : (image : List ℕ) (changes : List Change) → IsAppended image changes → Needs image changes (first_words changes - 0)
-needs_append image changes a = record { appended = λ b. omega arith; blank = λ n. absurd (n a); used = λ n. absurd (n a) }
 
 pub needs_turn : (image : List ℕ) (changes : List Change) (before after : LogValue) → after ≡ record before { task = Wait Unread } → (IsAppended image changes → ⊥) → Needs image changes (turn_left image changes (target_of after.task))
 needs_turn image changes before after e n =

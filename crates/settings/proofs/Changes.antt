@@ -1,4 +1,5 @@
 -- The changes that some words hold, after more words.
+use Rattle.std.proofs.lemmas.Grind.{common_steps}
 use Rattle.std.proofs.Common.{◌≡◌, ◌∙◌, ℕ, zero, suc, ◌+◌, ◌/◌, ◌^◌, ◌<◌, true, false, refl, sym, arith, List, [], ◌∷◌, ◌++◌, length, take, Option, Some, None, append_assoc, ◌==◌, if◌then◌else◌}
 use Rattle.std.proofs.lemmas.List.{append-nil, length-take-le, take_all}
 use Rattle.settings.specs.declared.words.Head.{Head}
@@ -33,8 +34,7 @@ changes_in-stop (word ∷ words) head rest d =
     ∙ rw (change_at-stop (head_of word) words head rest d, changes_in-stop words head rest d, changes_in-word word words) (sym (append_assoc (change_at (head_of word) words) (changes_in words) (changes_in (head ∷ rest))))
 
 take_none : (n : ℕ) → take {A = ℕ} n [] ≡ []
-take_none zero = refl
-take_none (suc n) = refl
+take_none n = grind (arith, common_steps)
 
 -- a word of bytes is no change
 pub changes_in-data : (word : ℕ) (rest : List ℕ) → is_data word ≡ true → changes_in (word ∷ rest) ≡ changes_in rest

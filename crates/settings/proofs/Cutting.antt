@@ -1,8 +1,9 @@
 -- What a cut of the power inside the next operation leaves.
+use Rattle.std.proofs.lemmas.Grind.{common_steps}
 use Rattle.std.proofs.Common.{◌≡◌, ◌∙◌, ℕ, ◌+◌, ◌<◌, ◌⊎◌, refl, subst, arith, List, [], ◌∷◌, ◌++◌, length, take, get_or, Option, Some, inl, inr}
-use Rattle.std.proofs.lemmas.Bool.{cases_eq, cases_lt, cases_Bool}
+use Rattle.std.proofs.lemmas.Bool.{cases_lt, cases_Bool}
 use Rattle.records.specs.declared.Slot.{Slot}
-use Rattle.records.specs.declared.Slot.TheVariants.{Free, Good, Spoiled}
+use Rattle.records.specs.declared.Slot.TheVariants.{Good}
 use Rattle.records.specs.Slots.{slot_of}
 use Rattle.flash_model.specs.FlashOperation.{FlashOperation}
 use Rattle.flash_model.specs.Image.{IsImage, slot_at}
@@ -33,13 +34,7 @@ use Rattle.settings.proofs.Known.{known_change, between_kept, between_added, bet
 
 -- whether an operation's target reads as intended
 good_or : (slot : Slot) (word : ℕ) → (slot ≡ Good word) ⊎ (slot ≡ Good word → ⊥)
-good_or Free word = inr (λ e. cc)
-good_or Spoiled word = inr (λ e. cc)
-good_or (Good other) word =
-    elim (cases_eq other word) [
-      | inl e ↦ inl (rw e refl)
-      | inr n ↦ inr (λ e. n cc)
-    ]
+good_or slot word = grind (arith, common_steps)
 
 reads_or : (operation : Operation) (image : List ℕ) → ReadsBack operation image ⊎ (ReadsBack operation image → ⊥)
 reads_or (Program page slot word) image = good_or (slot_of (slot_at image page slot)) word
@@ -50,8 +45,7 @@ reads_or (Erase page) image =
     ]
 
 may_make : (old : List ℕ) (operation : Operation) (new : List ℕ) → MayLeave old (on_flash operation) new → MayMake old operation new
-may_make old (Program page slot word) new m = m
-may_make old (Erase page) new m = m
+may_make old operation new h1 = grind (arith, common_steps)
 
 -- the operation that is next
 pub record HasNext (old : List ℕ) (log : LogValue) : Type 0 where

@@ -1,4 +1,5 @@
 -- The words that a compaction was given.
+use Rattle.std.proofs.lemmas.Grind.{common_steps}
 use Rattle.std.proofs.Common.{◌≡◌, ◌∙◌, ℕ, zero, suc, ◌+◌, ◌^◌, ◌<◌, ◌≤◌, refl, sym, ap, arith, List, [], ◌∷◌, ◌++◌, length, take, get_or, Option, None, inl, inr, append_assoc}
 use Rattle.std.proofs.lemmas.Bool.{cases_lt}
 use Rattle.std.proofs.lemmas.List.{append-nil, length-append, take_all, length-take-le}
@@ -35,11 +36,7 @@ given_by values from (suc at) change n o =
     rw (e, kept_is values from change n) refl
 
 pub next_inside : (values : ℕ → Option (List ℕ)) (from at : ℕ) (change : Change) → IsNext values from change → Owns values from at → 0 < length (words_of change) → at < length (words_of change)
-next_inside values from zero change n o l = l
-next_inside values from (suc at) change n o l =
-    let e : from ≡ change.id = same_id values from (suc at) change n (omega arith) o in
-    let m = (o (omega arith)).1 in
-    rw (e, kept_is values from change n) at m
+next_inside values from at change h1 h2 h3 = grind (arith, common_steps)
 
 given_one : (values : ℕ → Option (List ℕ)) (from at : ℕ) (change : Change) → IsNext values from change → Owns values from at → at < length (words_of change)
     → given_words values from at ++ get_or (words_of change) at 0 ∷ [] ≡ copies_below values change.id ++ take (at + 1) (words_of change)

@@ -1,4 +1,5 @@
 -- Words that are those of settings.
+use Rattle.std.proofs.lemmas.Grind.{common_steps}
 use Rattle.std.proofs.Common.{◌≡◌, ℕ, zero, suc, ◌^◌, ◌<◌, ◌≤◌, refl, arith, IsTrue, List, [], ◌∷◌, ◌++◌, length, Option, Some, None, All, inl}
 use Rattle.std.proofs.lemmas.List.Elements.{All-append}
 use Rattle.page_turnover.specs.Words.{words}
@@ -31,8 +32,7 @@ known_none : AreKnown []
 known_none k d l = absurd (omega arith)
 
 known_more : (word : ℕ) (rest : List ℕ) → IsTrue (is_known word) → AreKnown rest → AreKnown (word ∷ rest)
-known_more word rest a b zero d l = a
-known_more word rest a b (suc k) d l = b k d (omega arith)
+known_more word rest h1 h2 = grind (arith, common_steps)
 
 known_packed : (bytes : List ℕ) → AreBytes bytes → AreKnown (packed bytes)
 unfolding packed

@@ -1,13 +1,14 @@
 -- Values after some changes, and ids that nothing names.
 use Rattle.std.proofs.Common.{◌≡◌, ◌∙◌, ℕ, zero, suc, ◌+◌, ◌-◌, ◌<◌, ◌≤◌, refl, sym, ap, arith, List, [], ◌∷◌, ◌++◌, length, take, drop, get_or, Option, Some, None, inl, inr}
 use Rattle.std.proofs.lemmas.Bool.{eq-eqb, ne_eqb, cases_lt}
-use Rattle.std.proofs.lemmas.List.{append-nil, length-append, take_all}
+use Rattle.std.proofs.lemmas.List.{append-nil, length-append}
 use Rattle.page_turnover.specs.Words.{words}
 use Rattle.settings.specs.declared.change.Change.{Change}
 use Rattle.settings.specs.Words.{head_of, words_of}
 use Rattle.settings.specs.Settings.{changes_in, after, settings_of, changed}
 use Rattle.settings.specs.Copies.{kept_words, copies_below, NoneBetween, IsNext}
 use Rattle.settings.proofs.Changes.{after-append, changes_in-word, changes_in-none}
+use Rattle.settings.proofs.Tables.{front}
 
 pub settings_of-is : (image : List ℕ) (id : ℕ) → settings_of image id ≡ after None (changes_in (words image)) id
 unfolding settings_of
@@ -65,31 +66,11 @@ copies_grow values from (suc to) l =
       | inr m ↦ (let h = copies_grow values from to m in let k = length-append (copies_below values to) (kept_words to (values to)) in omega (arith, h, k))
     ]
 
-pub none_between : (values : ℕ → Option (List ℕ)) (from middle to : ℕ) → NoneBetween values from middle → NoneBetween values middle to → NoneBetween values from to
-none_between values from middle to m n id a b =
-    elim (cases_lt id middle) [
-      | inl l ↦ m id a l
-      | inr l ↦ n id l b
-    ]
-
-pub none_more : (values : ℕ → Option (List ℕ)) (from to : ℕ) → NoneBetween values from to → values to ≡ None → NoneBetween values from (to + 1)
-none_more values from to n e id a b =
-    elim (cases_lt id to) [
-      | inl l ↦ n id a l
-      | inr l ↦ (let s : to ≡ id = omega arith in rw s at e)
-    ]
-
 pub copies_none : (values : ℕ → Option (List ℕ)) → 0 ≡ length (copies_below values 0)
 unfolding copies_below
 copies_none values = refl
 
 -- the first change of some
-front : (changes : List Change) (change other : Change) → 1 ≤ length changes → change ≡ get_or changes 0 other → changes ≡ change ∷ take (length changes - 1) (drop 1 changes)
-front [] change other l e = absurd (omega arith)
-front (first ∷ rest) change other l e =
-    let n : length (first ∷ rest) - 1 ≡ length rest = omega arith in
-    rw (n, take_all (length rest) rest (omega arith), e) refl
-
 pub front_own : (value : Option (List ℕ)) (changes : List Change) (change other : Change) (id : ℕ) → 1 ≤ length changes → change ≡ get_or changes 0 other → change.id ≡ id
     → after value changes id ≡ after change.value (take (length changes - 1) (drop 1 changes)) id
 front_own value changes change other id l e i =

@@ -1,4 +1,5 @@
 -- The words of some bytes.
+use Rattle.std.proofs.lemmas.Grind.{common_steps}
 use Rattle.std.proofs.Common.{◌≡◌, ℕ, zero, suc, ◌+◌, ◌-◌, ◌*◌, ◌/◌, ◌<◌, refl, sym, arith, List, [], ◌∷◌, length, get_or, Option, Some, None}
 use Rattle.settings.specs.declared.change.Change.{Change}
 use Rattle.settings.specs.Words.{data_word, value_word, removal_word, packed, words_of, words_with}
@@ -59,8 +60,7 @@ at_with change bytes at e l = rw (size_some change bytes e) l
 
 -- a change has a word
 some_with : (id : ℕ) (value : Option (List ℕ)) → 0 < length (words_with id value)
-some_with id None = omega arith
-some_with id (Some bytes) = omega arith
+some_with id value = grind (arith, common_steps)
 
 pub some_words : (change : Change) → 0 < length (words_of change)
 unfolding words_of

@@ -1,7 +1,8 @@
 -- What the words so far say of an id, after one word more.
-use Rattle.std.proofs.Common.{◌≡◌, ◌∙◌, ℕ, ◌+◌, ◌≤◌, true, false, refl, sym, ap, arith, List, [], ◌∷◌, ◌++◌, length, take, set, Option, Some, None, append_assoc}
-use Rattle.std.proofs.lemmas.Bool.{eq-eqb, ne_eqb}
-use Rattle.std.proofs.lemmas.List.{length-append, length-take-le, length-set, take_more_set, take-take}
+use Rattle.std.proofs.lemmas.Grind.{common_steps}
+use Rattle.std.proofs.Common.{◌≡◌, ◌∙◌, ℕ, ◌+◌, ◌≤◌, true, false, refl, sym, ap, arith, List, [], ◌∷◌, ◌++◌, length, take, Option, Some, None}
+use Rattle.std.proofs.lemmas.Bool.{eq-eqb}
+use Rattle.std.proofs.lemmas.List.{length-append, length-take-le, take-take}
 use Rattle.settings.specs.declared.words.Head.{Head}
 use Rattle.settings.specs.declared.change.Change.{Change}
 use Rattle.settings.specs.declared.lookup.Partial.{Partial}
@@ -19,20 +20,6 @@ outcome-is id reading rest = refl
 
 so_far : (p : Partial) → IsPartial (Some p) → length (take p.got p.bytes) ≡ p.got
 so_far p h = length-take-le p.got p.bytes (omega (arith, h.0, h.1, h.2))
-
--- three bytes more
-pub three_more : (xs : List ℕ) (n a b c : ℕ) → n + 3 ≤ length xs → take (n + 3) (set (set (set xs n a) (n + 1) b) (n + 2) c) ≡ take n xs ++ a ∷ b ∷ c ∷ []
-three_more xs n a b c l =
-    let k : length (set xs n a) ≡ length xs = length-set xs n a in
-    let m : length (set (set xs n a) (n + 1) b) ≡ length (set xs n a) = length-set (set xs n a) (n + 1) b in
-    let x : take (n + 1) (set xs n a) ≡ take n xs ++ a ∷ [] = take_more_set xs n a (omega arith) in
-    let y : take (n + 1 + 1) (set (set xs n a) (n + 1) b) ≡ take (n + 1) (set xs n a) ++ b ∷ [] = take_more_set (set xs n a) (n + 1) b (omega (arith, k)) in
-    let z : take (n + 2 + 1) (set (set (set xs n a) (n + 1) b) (n + 2) c) ≡ take (n + 2) (set (set xs n a) (n + 1) b) ++ c ∷ [] = take_more_set (set (set xs n a) (n + 1) b) (n + 2) c (omega (arith, k, m)) in
-    let e : n + 3 ≡ n + 2 + 1 = omega arith in
-    let f : n + 2 ≡ n + 1 + 1 = omega arith in
-    ap (λ (i : ℕ). take i (set (set (set xs n a) (n + 1) b) (n + 2) c)) e ∙ z
-    ∙ ap (λ (t : List ℕ). t ++ c ∷ []) (ap (λ (i : ℕ). take i (set (set xs n a) (n + 1) b)) f ∙ y ∙ ap (λ (t : List ℕ). t ++ b ∷ []) x)
-    ∙ append_assoc (take n xs ++ a ∷ []) (b ∷ []) (c ∷ []) ∙ append_assoc (take n xs) (a ∷ []) (b ∷ c ∷ [])
 
 -- a word of bytes
 outcome_data : (id : ℕ) (value : Option (List ℕ)) (p : Partial) (word : ℕ) (rest : List ℕ) → IsPartial (Some p) → is_data word ≡ true
@@ -78,15 +65,9 @@ pub other_none : (id : ℕ) (value : Option (List ℕ)) (word : ℕ) (rest : Lis
 other_none id value word rest e =
     outcome-is id (record { value = value; partial = None }) rest ∙ sym (outcome-is id (record { value = value; partial = None }) (word ∷ rest) ∙ rw (changes_in-word word rest, e) refl)
 
-after_given : (v : Option (List ℕ)) (other : ℕ) (value : Option (List ℕ)) (rest : List Change) (id : ℕ) → (other ≡ id → ⊥) → after v (given other value ++ rest) id ≡ after v rest id
-unfolding after
-after_given v other None rest id n = refl
-after_given v other (Some bytes) rest id n = rw (ne_eqb other id n) refl
-
 after_with : (v : Option (List ℕ)) (other : ℕ) (len : Option ℕ) (words : List ℕ) (rest : List Change) (id : ℕ) → (other ≡ id → ⊥) → after v (change_with other len words ++ rest) id ≡ after v rest id
 unfolding after
-after_with v other None words rest id n = rw (ne_eqb other id n) refl
-after_with v other (Some len) words rest id n = after_given v other (gathered len [] words) rest id n
+after_with v other len words rest id h1 = grind (arith, common_steps)
 
 pub after_other : (v : Option (List ℕ)) (word : ℕ) (head : Head) (rest : List ℕ) (id : ℕ) → head_of word ≡ Some head → (head.id ≡ id → ⊥) → after v (changes_in (word ∷ rest)) id ≡ after v (changes_in rest) id
 after_other v word head rest id e n = rw (changes_in-word word rest, e) (after_with v head.id head.len rest (changes_in rest) id n)
@@ -98,8 +79,7 @@ other_head id value word head rest e n =
 -- a change of the id begins
 own_given : (v : Option (List ℕ)) (id : ℕ) (value : Option (List ℕ)) (rest : List Change) → after v (given id value ++ rest) id ≡ after (or_before value v) rest id
 unfolding after
-own_given v id None rest = refl
-own_given v id (Some bytes) rest = rw (eq-eqb id id refl) refl
+own_given v id value rest = grind (arith, common_steps)
 
 pub begins_value : (id : ℕ) (value : Option (List ℕ)) (word len : ℕ) (rest : List ℕ) → head_of word ≡ Some (record { id = id; len = Some len })
     → outcome id (record { value = value; partial = None }) (word ∷ rest) ≡ after (or_before (gathered len [] rest) value) (changes_in rest) id

@@ -1,4 +1,5 @@
 -- Tables of values.
+use Rattle.std.proofs.lemmas.Grind.{common_steps}
 use Rattle.std.proofs.Common.{◌≡◌, ◌≢◌, ◌∙◌, ℕ, zero, suc, ◌+◌, ◌^◌, ◌<◌, ◌≤◌, ◌-◌, refl, sym, ap, arith, List, [], ◌∷◌, ◌++◌, length, take, drop, set, get_or, Option, Some, None, inl, inr, ◌==◌}
 use Rattle.std.proofs.lemmas.Bool.{cases_Bool, cases_lt, eq-eqb, ne_eqb}
 use Rattle.std.proofs.lemmas.List.{take_more, take_more_set, take_all, length-set}
@@ -8,16 +9,13 @@ use Rattle.settings.specs.Table.{value_or, kept, ids_below}
 use Rattle.settings.specs.representation.Table.{IsEntry, is_next, is_last, end_of}
 
 or_none : (value : Option (List ℕ)) → value_or value None ≡ value
-or_none (Some bytes) = refl
-or_none None = refl
+or_none value = grind (arith, common_steps)
 
 or_assoc : (a b c : Option (List ℕ)) → value_or a (value_or b c) ≡ value_or (value_or a b) c
-or_assoc (Some bytes) b c = refl
-or_assoc None b c = refl
+or_assoc a b c = grind (arith, common_steps)
 
 none_parts : (a b : Option (List ℕ)) → value_or a b ≡ None → (a ≡ None) × (b ≡ None)
-none_parts (Some bytes) b e = cc
-none_parts None b e = (refl, e)
+none_parts a b h1 = grind (arith, common_steps)
 
 -- what one entry alone says of an id
 abbrev pub own : Change → ℕ → Option (List ℕ)
@@ -190,8 +188,7 @@ filled_more values table at from entry l f (is_last n e) = rw (end_free entry e)
 
 -- no id is left
 nothing_left : (values : ℕ → Option (List ℕ)) (from : ℕ) (entry : Change) → IsEntry values from entry → entry.value ≡ None → NoneBetween values from (2 ^ 16)
-nothing_left values from entry (is_next n) e = let s : Some n.bytes ≡ None = sym n.value_is ∙ e in cc
-nothing_left values from entry (is_last n m) e = n
+nothing_left values from entry h1 h2 = grind (arith, common_steps)
 
 pub filled_all : (values : ℕ → Option (List ℕ)) (table : List Change) (at from : ℕ) (entry : Change) → length table ≤ at → Filled values table at from → IsEntry values from entry → entry.value ≡ None → (id : ℕ) → id < 2 ^ 16 → kept table id ≡ values id
 filled_all values table at from entry l f n e id b =
@@ -258,11 +255,8 @@ pub forgotten_all : (old table : List Change) (id at : ℕ) → length table ≤
 forgotten_all old table id at l f = rw (take_all at table l) at f.gone
 
 -- the first entry of a table
-front : (table : List Change) (entry d : Change) → 1 ≤ length table → entry ≡ get_or table 0 d → table ≡ entry ∷ take (length table - 1) (drop 1 table)
-front [] entry d l e = absurd (omega arith)
-front (first ∷ rest) entry d l e =
-    let n : length (first ∷ rest) - 1 ≡ length rest = omega arith in
-    rw (n, take_all (length rest) rest (omega arith), e) refl
+pub front : (table : List Change) (entry d : Change) → 1 ≤ length table → entry ≡ get_or table 0 d → table ≡ entry ∷ take (length table - 1) (drop 1 table)
+front table entry d h1 h2 = grind (arith, common_steps)
 
 pub front_value : (table : List Change) (entry d : Change) (id : ℕ) (bytes : List ℕ) → 1 ≤ length table → entry ≡ get_or table 0 d → entry.id ≡ id → entry.value ≡ Some bytes → kept table id ≡ Some bytes
 front_value table entry d id bytes l e i v =

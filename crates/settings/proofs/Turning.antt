@@ -1,6 +1,7 @@
 -- A compaction to the words of all values.
+use Rattle.std.proofs.lemmas.Grind.{common_steps}
 use Rattle.std.proofs.Common.{◌≡◌, ◌∙◌, ℕ, ◌+◌, ◌^◌, ◌<◌, ◌≤◌, refl, sym, ap, subst, arith, List, [], ◌∷◌, ◌++◌, length, get_or, Option, inl, inr}
-use Rattle.std.proofs.lemmas.Bool.{cases_Bool, cases_lt}
+use Rattle.std.proofs.lemmas.Bool.{cases_lt}
 use Rattle.std.proofs.lemmas.List.{append-nil, length-append}
 use Rattle.page_turnover.specs.declared.log.stepping.Step.{Step}
 use Rattle.page_turnover.specs.declared.log.stepping.Step.TheVariants.{Moved, Committed}
@@ -9,7 +10,6 @@ use Rattle.page_turnover.specs.representation.Log.{Describes}
 use Rattle.page_turnover.specs.representation.Turn.{UnderWay}
 use Rattle.page_turnover.specs.Turn.{copies, offered, copied, target_page, IsWaiting, IsPending, CanOffer, HasShortWord, with_copy, with_seal}
 use Rattle.page_turnover.specs.Words.{IsBlank}
-use Rattle.page_turnover.specs.Blank.{is_blank}
 use Rattle.page_turnover.specs.Steps.{IsReady, StepsFor, Steps, Keeps, Moves, Commits, EndsAs}
 use Rattle.page_turnover.proofs.Endings.{waiting_count}
 use Rattle.page_turnover.proofs.Blanks.{is_blank-blank, is_blank-used}
@@ -39,24 +39,7 @@ record IsAfter (old new : List ℕ) (before after : Task) : Type 0 where
   all : IsSeal after → (copies new after ≡ copies old before) × IsSeal before
 
 after_move : (task : Task) (old : List ℕ) (before : LogValue) (new : List ℕ) (after : LogValue) → IsTurn task → StepsFor task old before Moved new after → Moves old task new after.task → IsAfter old new task after.task
-after_move Rest old before new after t s m = absurd t
-after_move (Append word) old before new after t s m = absurd t
-after_move (Wait target) old before new after t s m = let f = s.answer in cc
-after_move (Copy target word) old before new after t s m =
-    let A : Task → Type 0 = λ x. IsAfter old new (Copy target word) x in
-    elim s [
-      | inl a ↦ (let e : after.task ≡ Copy (Holds 0) word = rw a.next refl in subst A (sym e) (record { of_turn = tt; short = λ h. h; all = λ f. absurd f }))
-      | inr a ↦ (let e : after.task ≡ Wait (Holds (copied target + 1)) = rw a.next refl in subst A (sym e) (record { of_turn = tt; short = λ h. tt; all = λ f. absurd f }))
-    ]
-after_move (Seal target) old before new after t s m =
-    let A : Task → Type 0 = λ x. IsAfter old new (Seal target) x in
-    let C : Task → Type 0 = λ x. copies new x ++ offered x ≡ copies old (Seal target) ++ [] in
-    elim s [
-      | inl a ↦ (let e : after.task ≡ Seal (Holds 0) = rw a.next refl in
-          let c : copies new (Seal (Holds 0)) ++ [] ≡ copies old (Seal target) ++ [] = subst C e m.copies_are in
-          subst A (sym e) (record { of_turn = tt; short = λ h. tt; all = λ f. (sym (append-nil (copies new (Seal (Holds 0)))) ∙ c ∙ append-nil (copies old (Seal target)), tt) }))
-      | inr a ↦ (let f = a.answer in cc)
-    ]
+after_move task old before new after h1 h2 h3 = grind (arith, common_steps)
 
 moved_step : (old : List ℕ) (log : LogValue) (step : Step) (new : List ℕ) (after : LogValue) → IsTurn log.task → step ≡ Moved → EndsAs old log step new after → Moves old log.task new after.task → IsAfter old new log.task after.task
 moved_step old log step new after t e ends m =
@@ -102,11 +85,7 @@ erases_left-used image u = rw (is_blank-used image (target_page image) u) refl
 
 pub erases_left-most : (image : List ℕ) (target : Target) → erases_left image target ≤ 1
 unfolding erases_left
-erases_left-most image Unread = elim (cases_Bool (is_blank image (target_page image))) [
-  | inl e ↦ rw e (omega arith)
-  | inr e ↦ rw e (omega arith)
-]
-erases_left-most image (Holds n) = omega arith
+erases_left-most image target = grind (arith, common_steps)
 
 left_moved : (task : Task) (old : List ℕ) (changes : List Change) (before : LogValue) (new : List ℕ) (after : LogValue) → alive new changes ≡ alive old changes → IsTurn task → UnderWay old task → length (copies old task ++ offered task) ≤ alive old changes → StepsFor task old before Moved new after
     → turn_left new changes (target_of after.task) + 1 ≡ turn_left old changes (target_of task)
@@ -171,18 +150,10 @@ turn_last_left old changes log from at step new after j d e ends =
 
 -- what a waiting compaction is offered
 copy_target : (task : Task) (word : ℕ) → target_of (with_copy task word) ≡ target_of task
-copy_target Rest word = refl
-copy_target (Append other) word = refl
-copy_target (Wait target) word = refl
-copy_target (Copy target other) word = refl
-copy_target (Seal target) word = refl
+copy_target task word = grind (arith, common_steps)
 
 seal_target : (task : Task) → target_of (with_seal task) ≡ target_of task
-seal_target Rest = refl
-seal_target (Append word) = refl
-seal_target (Wait target) = refl
-seal_target (Copy target word) = refl
-seal_target (Seal target) = refl
+seal_target task = grind (arith, common_steps)
 
 -- a waiting compaction that was offered a copy
 record IsCopying (image : List ℕ) (task : Task) (word : ℕ) : Type 0 where
@@ -193,11 +164,7 @@ record IsCopying (image : List ℕ) (task : Task) (word : ℕ) : Type 0 where
   short : word < 2 ^ 31 → HasShortWord (with_copy task word)
 
 copying : (image : List ℕ) (task : Task) (word : ℕ) → IsWaiting task → IsCopying image task word
-copying image Rest word w = absurd w
-copying image (Append other) word w = absurd w
-copying image (Wait target) word w = record { of_turn = tt; pending = tt; given = rw (append-nil (copies image (Wait target))) refl; unsealed = λ f. f; short = λ l. l }
-copying image (Copy target other) word w = absurd w
-copying image (Seal target) word w = absurd w
+copying image task word h1 = grind (arith, common_steps)
 
 record IsSealing (image : List ℕ) (task : Task) : Type 0 where
   of_turn : IsTurn (with_seal task)
@@ -207,11 +174,7 @@ record IsSealing (image : List ℕ) (task : Task) : Type 0 where
   short : HasShortWord (with_seal task)
 
 sealing : (image : List ℕ) (task : Task) → IsWaiting task → IsSealing image task
-sealing image Rest w = absurd w
-sealing image (Append other) w = absurd w
-sealing image (Wait target) w = record { of_turn = tt; pending = tt; copies_are = sym (append-nil (copies image (Wait target))); none = refl; short = tt }
-sealing image (Copy target other) w = absurd w
-sealing image (Seal target) w = absurd w
+sealing image task h1 = grind (arith, common_steps)
 
 can_offer : (image : List ℕ) (task : Task) → IsWaiting task → UnderWay image task → length (copies image task ++ offered task) < 511 → CanOffer task
 can_offer image Rest w u l = absurd w
@@ -224,11 +187,7 @@ can_offer image (Copy target word) w u l = absurd w
 can_offer image (Seal target) w u l = absurd w
 
 pending_else : (task : Task) → IsTurn task → (IsWaiting task → ⊥) → IsPending task
-pending_else Rest t n = absurd t
-pending_else (Append word) t n = absurd t
-pending_else (Wait target) t n = absurd (n tt)
-pending_else (Copy target word) t n = tt
-pending_else (Seal target) t n = tt
+pending_else task h1 h2 = grind (arith, common_steps)
 
 -- the compaction of settings that were offered nothing, since something is pending
 pub offered_before : (image : List ℕ) (changes : List Change) (settings : SettingsValue) (from at : ℕ) → Relation image changes settings → settings.job ≡ Turning from at → (IsWaiting settings.log.task → ⊥) → IsOffered image changes settings settings

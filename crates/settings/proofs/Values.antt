@@ -1,4 +1,5 @@
 -- Each id has a value or none, whatever the words and the changes are.
+use Rattle.std.proofs.lemmas.Grind.{common_steps}
 use Rattle.std.proofs.Common.{◌≡◌, ℕ, zero, suc, ◌/◌, ◌%◌, ◌^◌, ◌<◌, ◌≤◌, refl, arith, List, [], ◌∷◌, ◌++◌, length, take, Option, Some, None, nat_le, inl, inr, ◌==◌, ◌&&◌}
 use Rattle.std.proofs.lemmas.Bool.{cases_Bool, and_parts}
 use Rattle.std.proofs.lemmas.List.{length-take-le}
@@ -37,10 +38,7 @@ bytes_taken (suc n) (byte ∷ bytes) h zero = h 0
 bytes_taken (suc n) (byte ∷ bytes) h (suc k) = bytes_taken n bytes (λ i. h (suc i)) k
 
 word_are_bytes : (word : ℕ) → AreBytes (word_bytes word)
-word_are_bytes word zero = omega arith
-word_are_bytes word (suc zero) = omega arith
-word_are_bytes word (suc (suc zero)) = omega arith
-word_are_bytes word (suc (suc (suc k))) = omega arith
+word_are_bytes word = grind (arith, common_steps)
 
 taken_value : (len : ℕ) (bytes : List ℕ) → len ≤ 64 → len ≤ length bytes → AreBytes bytes → IsValueIfSome (Some (take len bytes))
 taken_value len bytes few l h =
@@ -80,8 +78,7 @@ head_small word =
     ]
 
 given_such : (id : ℕ) (value : Option (List ℕ)) → id < 2 ^ 16 → IsValueIfSome value → AreSuch (given id value)
-given_such id None l h = tt
-given_such id (Some bytes) l h = (record { small = l; value_is = h }, tt)
+given_such id value h1 h2 = grind (arith, common_steps)
 
 with_such : (id : ℕ) (len : Option ℕ) (words : List ℕ) → id < 2 ^ 16 → ((n : ℕ) → len ≡ Some n → n ≤ 64) → AreSuch (change_with id len words)
 with_such id None words l few = (record { small = l; value_is = tt }, tt)

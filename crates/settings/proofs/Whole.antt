@@ -1,9 +1,10 @@
 -- A call that comes back when all is stored.
+use Rattle.std.proofs.lemmas.Grind.{common_steps}
 use Rattle.std.proofs.Common.{◌≡◌, ◌∙◌, ℕ, ◌+◌, ◌%◌, ◌^◌, ◌≤◌, refl, sym, arith, List, [], ◌∷◌, length, Bool, true, false, inl, inr, Ok, Err, Option, Some}
 use Rattle.flash_model.specs.FlashOperation.{FlashOperation}
 use Rattle.settings.specs.declared.change.Change.{Change}
 use Rattle.settings.specs.declared.store.SettingsError.{SettingsError}
-use Rattle.settings.specs.declared.store.SettingsError.TheVariants.{TooLong, Full, Unsound, Foreign, Worn, Fault}
+use Rattle.settings.specs.declared.store.SettingsError.TheVariants.{Fault}
 use Rattle.settings.specs.declared.store.Job.{Job}
 use Rattle.settings.specs.declared.store.Job.TheVariants.{Resting, Appending, Turning}
 use Rattle.settings.specs.Words.{words_of, IsValue, IsValueIfSome}
@@ -120,9 +121,7 @@ stores_all image operations faults operates is_faultless changes rest value old 
     }
 
 nothing_left : (job : Job) (image : List ℕ) (changes : List Change) (settings : SettingsValue) → settings.job ≡ job → (IsBusy job → ⊥) → left image changes settings ≡ 0
-nothing_left Resting image changes settings e b = rw e refl
-nothing_left (Appending at) image changes settings e b = absurd (b tt)
-nothing_left (Turning from at) image changes settings e b = absurd (b tt)
+nothing_left job image changes settings h1 h2 = grind (arith, common_steps)
 
 -- by as many operations as were needed
 pub count_all : {F : Type 0} (image : F → List ℕ) (operations : F → ℕ) (operates : F → FlashOperation → F → Type 0) (is_faultless : F → Type 0) (changes : List Change) (old : F) (settings : SettingsValue) (new : F)
@@ -155,12 +154,7 @@ stores_none image operations faults operates is_faultless changes failed first l
 
 -- nothing was begun
 not_both : (why : SettingsError) (image : List ℕ) (changes : List Change) → IsRefused image changes why → IsAccepted image changes → ⊥
-not_both TooLong image changes r a = r
-not_both Unsound image changes r a = r a.usable
-not_both Foreign image changes r a = r.1 a.known
-not_both Full image changes r a = let l = a.fits r.2 in let m = r.3 in absurd (omega arith)
-not_both Worn image changes r a = a.numbered r.2 r.4
-not_both Fault image changes r a = r
+not_both why image changes h1 h2 = grind (arith, common_steps)
 
 pub stores_nothing : {F T : Type 0} (image : F → List ℕ) (operations faults : F → ℕ) (operates : F → FlashOperation → F → Type 0) (is_faultless : F → Type 0) (changes : List Change) (why : SettingsError) (old : F)
     → IsRefused (image old) changes why → Stores {F = F} {T = T} image operations faults operates is_faultless changes (Err why) old old

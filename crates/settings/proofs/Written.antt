@@ -1,13 +1,13 @@
 -- Where changes are written, step by step.
-use Rattle.std.proofs.Common.{◌≡◌, ◌∙◌, ℕ, ◌+◌, ◌<◌, ◌≤◌, refl, sym, ap, subst, arith, List, [], ◌∷◌, ◌++◌, length, take, get_or, Some, inl, inr, append_assoc}
+use Rattle.std.proofs.lemmas.Grind.{common_steps}
+use Rattle.std.proofs.Common.{◌≡◌, ◌∙◌, ℕ, ◌+◌, ◌<◌, ◌≤◌, refl, ap, subst, arith, List, [], ◌∷◌, ◌++◌, length, take, get_or, Some, inl, inr, append_assoc}
 use Rattle.std.proofs.lemmas.Bool.{cases_lt}
-use Rattle.std.proofs.lemmas.List.{append-nil, take_all}
+use Rattle.std.proofs.lemmas.List.{take_all}
 use Rattle.flash_model.specs.Image.{page_count}
-use Rattle.flash_model.proofs.Places.{page_count-one_slot, page_count-one_page}
 use Rattle.page_turnover.specs.declared.log.stepping.Step.{Step}
 use Rattle.page_turnover.specs.declared.log.stepping.Step.TheVariants.{Committed}
 use Rattle.page_turnover.specs.Active.{active}
-use Rattle.page_turnover.specs.Operates.{Operates, programs, erases}
+use Rattle.page_turnover.specs.Operates.{Operates}
 use Rattle.page_turnover.specs.Steps.{Keeps, Commits, CommitsWord, EndsAs, Steps, StepsFor}
 use Rattle.page_turnover.specs.Turn.{copies, copied, target_page, next_seq}
 use Rattle.page_turnover.specs.Usable.{IsUsable}
@@ -67,8 +67,7 @@ between_word old changes log next at word new a t w c u =
 
 -- a step of a compaction
 pages_same : (old new : List ℕ) → Operates old new → page_count new ≡ page_count old
-pages_same old new (programs u page slot word p s w free g) = page_count-one_slot old page slot new g.rest
-pages_same old new (erases u page p n g) = page_count-one_page old page new g.rest
+pages_same old new h1 = grind (arith, common_steps)
 
 target_same : (old new : List ℕ) → active new ≡ active old → page_count new ≡ page_count old → target_page new ≡ target_page old
 unfolding target_page
@@ -109,12 +108,7 @@ between_turned old changes log from at new j c w u = between_copied old changes 
 
 -- where changes are so far
 pub written_none : (image : List ℕ) (changes : List Change) (job : Job) → GoesTo image changes job → WrittenSoFar image changes job image
-written_none image changes Resting g = absurd g
-written_none image changes (Appending at) g = (g.0, record { words_are = rw g.1 (sym (append-nil (words image))); active_is = refl; format_is = refl })
-written_none image changes (Turning from at) g = (g, record { words_are = refl; active_is = refl; format_is = refl }, refl)
-
-keeps_both : (old middle new : List ℕ) → Keeps old middle → Keeps middle new → Keeps old new
-keeps_both old middle new k l = record { words_are = l.words_are ∙ k.words_are; active_is = l.active_is ∙ k.active_is; format_is = l.format_is ∙ k.format_is }
+written_none image changes job h1 = grind (arith, common_steps)
 
 adds_next : (old middle new : List ℕ) (more : List ℕ) (at : ℕ) → at < length more → Adds old (take at more) middle → Adds middle (get_or more at 0 ∷ []) new → Adds old (take (at + 1) more) new
 adds_next old middle new more at l a b = record {
@@ -124,11 +118,7 @@ adds_next old middle new more at l a b = record {
 }
 
 written_more : (old middle new : List ℕ) (changes : List Change) (before after : Job) → WrittenSoFar old changes before middle → WritesMore before middle changes new after → WrittenSoFar old changes after new
-written_more old middle new changes Resting after s m = absurd m
-written_more old middle new changes (Appending at) after s m = let l = m.2 in rw m.1 (s.0, adds_next old middle new (own_words changes) at (omega arith) s.1 m.0)
-written_more old middle new changes (Turning from at) Resting s m = absurd m.2
-written_more old middle new changes (Turning from at) (Appending other) s m = absurd m.2
-written_more old middle new changes (Turning from at) (Turning next other) s m = (s.0, keeps_both old middle new s.1 m.0, m.1 ∙ s.2)
+written_more old middle new changes before after h1 h2 = grind (arith, common_steps)
 
 compacted_from : (old middle new : List ℕ) (changes : List Change) → Keeps old middle → target_page middle ≡ target_page old → IsCompacted middle changes new → IsCompacted old changes new
 compacted_from old middle new changes k t c =
@@ -150,6 +140,4 @@ written_step old middle new changes before (Appending at) s more last = written_
 written_step old middle new changes before (Turning from at) s more last = written_more old middle new changes before (Turning from at) s (more tt)
 
 pub written_all : (old : List ℕ) (changes : List Change) (job : Job) (new : List ℕ) → WrittenSoFar old changes job new → (IsBusy job → ⊥) → AreWritten old changes new
-written_all old changes Resting new w b = w
-written_all old changes (Appending at) new w b = absurd (b tt)
-written_all old changes (Turning from at) new w b = absurd (b tt)
+written_all old changes job new h1 h2 = grind (arith, common_steps)
