@@ -73,5 +73,5 @@ def check(path):
 
 if __name__ == "__main__":
     found = check(sys.argv[1])
-    print("\n".join(found))
+    print("\n".join(found or ["what runs while the flash is off lies in RAM"]))
     sys.exit(1 if found else 0)

@@ -14,7 +14,7 @@
 //! - [`histories`]: random histories in which acknowledgements are lost. What the host saw the end of is in the flash, and no
 //!   key sticks.
 //!
-//! `examples/stm32_usb/tests.rs` and `examples/rp2040_usb/tests.rs` are two firmwares.
+//! The files `examples/*_usb/tests.rs` are firmwares.
 
 mod drivers;
 pub(crate) mod host;
