@@ -1,7 +1,10 @@
 //! A check of a flash and its driver, for a maker to run once on the chip. Written by hand: tested, not proved.
 
+mod marks;
 #[cfg(test)]
 mod tests;
+
+pub use marks::check_marks;
 
 use crate::page_count::PageCount;
 use crate::parts::flash_model::{NorFlash, PAGE_SLOTS, SLOT_BYTES};
@@ -67,6 +70,11 @@ pub enum DriverFault {
     SecondProgram(Place),
     /// Two reads of a slot in a row differ.
     Unsteady(Place),
+    /// A mark (in place of a slot) was erased or programmed, and reads otherwise or reported a fault; or something else changed it.
+    Mark(Place),
+    /// A mark that was programmed again, with the same bits or with zeros, reported a fault or reads otherwise: **the chip is not for
+    /// [`SteadyFlash`](crate::SteadyFlash)**.
+    MarkRefused(Place),
 }
 
 /// Checks over spare pages that a flash does what [`NorFlash`] says of each call.
@@ -122,21 +130,7 @@ pub enum DriverFault {
 pub fn check_driver<F: NorFlash>(flash: &mut F) -> Result<(), DriverFault> {
     PageCount::check(flash).map_err(DriverFault::PageCount)?;
     let pages = flash.pages();
-    let mut check = Check { flash, pages };
-    check.erase_all()?;
-    for page in 0..pages {
-        check.fill(page)?;
-    }
-    for page in 0..pages {
-        check.holds_words(page, DriverFault::Shared)?;
-    }
-    for page in 0..pages {
-        check.erase(page)?;
-        check.others_hold_words(page, DriverFault::OtherErased)?;
-        check.fill(page)?;
-    }
-    check.second_programs()?;
-    check.erase_all()
+    Check { flash, pages }.all()
 }
 
 /// A flash under check.
@@ -146,6 +140,23 @@ struct Check<'f, F> {
 }
 
 impl<F: NorFlash> Check<'_, F> {
+    fn all(&mut self) -> Result<(), DriverFault> {
+        self.erase_all()?;
+        for page in 0..self.pages {
+            self.fill(page)?;
+        }
+        for page in 0..self.pages {
+            self.holds_words(page, DriverFault::Shared)?;
+        }
+        for page in 0..self.pages {
+            self.erase(page)?;
+            self.others_hold_words(page, DriverFault::OtherErased)?;
+            self.fill(page)?;
+        }
+        self.second_programs()?;
+        self.erase_all()
+    }
+
     fn read(&self, place: Place) -> Result<[u8; SLOT_BYTES], DriverFault> {
         let bytes = self.flash.read_slot(place.page, place.slot);
         if bytes != self.flash.read_slot(place.page, place.slot) {
@@ -280,6 +291,10 @@ impl core::fmt::Display for DriverFault {
             DriverFault::BitsSet(place) => (place, "a second program set bits that were clear"),
             DriverFault::SecondProgram(place) => (place, "a second program left other bits than it should"),
             DriverFault::Unsteady(place) => (place, "two reads in a row differ"),
+            DriverFault::Mark(place) => return write!(f, "page {}, mark {}: wrong, or changed", place.page, place.slot),
+            DriverFault::MarkRefused(Place { page, slot }) => {
+                return write!(f, "page {page}, mark {slot}: the chip refuses to program it again");
+            }
         };
         write!(f, "page {}, slot {}: {what}", place.page, place.slot)
     }

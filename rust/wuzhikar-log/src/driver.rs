@@ -76,4 +76,11 @@ pub trait FlashDriver {
 
     /// Erases the bytes from `from` up to `to`, without `to`, and returns when that is done: they read as FFh then.
     fn erase(&mut self, from: u32, to: u32) -> Result<(), Self::Error>;
+
+    /// Resets the chip. [`SteadyFlash`](crate::SteadyFlash) alone calls it, where the flash has failed 8 times in a row inside an
+    /// operation of which nothing may be told: neither that it is stored, nor that it failed.
+    ///
+    /// It does nothing where a driver leaves it out. The operation is then told as failed, though a later start may find it done,
+    /// and each later one fails.
+    fn give_up(&mut self) {}
 }

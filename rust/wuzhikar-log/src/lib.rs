@@ -10,7 +10,8 @@
 //!
 //! [`SlotFlash`] turns a driver into such a flash. The driver has the calls of `embedded-storage` ([`FlashDriver`]), and
 //! write and erase units of any size. For a chip with error correction take [`PairedFlash`] on a [`UnitFlash`], or on an
-//! [`EccFlash`] of your own. [`check_driver`], run once on the chip over spare pages, names what the flash does wrong.
+//! [`EccFlash`] of your own, and for one whose torn cells waver, or whose erase programs to 0 first, [`SteadyFlash`] on
+//! [`MarkedUnits`]. [`check_driver`] or [`check_marks`], run once on the chip over spare pages, names what the flash does wrong.
 //!
 //! A flash of your own, here two pages in RAM, implements [`NorFlash`]:
 //!
@@ -63,6 +64,8 @@ pub mod calls;
 mod check_driver;
 mod driver;
 mod face;
+mod marked_flash;
+mod marked_units;
 mod page_count;
 #[doc(hidden)]
 pub mod parts;
@@ -73,13 +76,16 @@ pub mod rattle;
 #[cfg(feature = "settings")]
 mod settings;
 mod slot_flash;
+mod steady_flash;
 mod unit_flash;
 mod units;
 mod whole;
 
-pub use crate::check_driver::{DriverFault, Place, check_driver};
+pub use crate::check_driver::{DriverFault, Place, check_driver, check_marks};
 pub use crate::driver::FlashDriver;
 pub use crate::face::{FlashLog, LogRefusal};
+pub use crate::marked_flash::MarkedFlash;
+pub use crate::marked_units::MarkedUnits;
 pub use crate::page_count::PageCount;
 pub use crate::parts::ecc_flash::{EccFlash, PAGE_UNITS, PairedFlash, UNIT_BYTES};
 #[cfg(feature = "sim")]
@@ -93,6 +99,7 @@ pub use crate::parts::settings::{
 #[cfg(feature = "settings")]
 pub use crate::settings::{FlashSettings, UnderWay};
 pub use crate::slot_flash::SlotFlash;
+pub use crate::steady_flash::{MountError, SteadyFlash, Unmounted};
 pub use crate::unit_flash::UnitFlash;
 pub use crate::units::GeometryError;
 pub use crate::whole::{Dropped, WriteError};

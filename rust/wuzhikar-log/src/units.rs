@@ -121,6 +121,11 @@ impl<D: FlashDriver, const UNITS: u32> Units<D, UNITS> {
     };
 
     pub(crate) fn new(driver: D, start: u32, pages: usize) -> Result<Units<D, UNITS>, GeometryError> {
+        Self::with_more(driver, start, pages, 0, 0)
+    }
+
+    /// Pages for a log, so many more, and so many bytes behind them.
+    pub(crate) fn with_more(driver: D, start: u32, pages: usize, more: usize, behind: u64) -> Result<Self, GeometryError> {
         let layout = Self::CHECKED?;
         if !(2..=8).contains(&pages) {
             return Err(GeometryError::Pages);
@@ -128,7 +133,8 @@ impl<D: FlashDriver, const UNITS: u32> Units<D, UNITS> {
         if u64::from(start) % D::ERASE_SIZE as u64 != 0 {
             return Err(GeometryError::Start);
         }
-        let end = u64::from(start) + u64::from(layout.page) * pages as u64;
+        let pages = pages + more;
+        let end = u64::from(start) + u64::from(layout.page) * pages as u64 + behind;
         if end > driver.capacity() as u64 || end > u64::from(u32::MAX) {
             return Err(GeometryError::Capacity { end });
         }
@@ -144,7 +150,6 @@ impl<D: FlashDriver, const UNITS: u32> Units<D, UNITS> {
         self.pages
     }
 
-    #[cfg(test)]
     pub(crate) fn driver(&mut self) -> &mut D {
         self.driver.get_mut()
     }
@@ -153,8 +158,11 @@ impl<D: FlashDriver, const UNITS: u32> Units<D, UNITS> {
         self.driver.into_inner()
     }
 
+    /// The bytes of a unit, in whole write units.
+    pub(crate) const UNIT: u32 = Self::LAYOUT.unit;
+
     /// Where a page starts; `page` may be `pages`.
-    fn page_at(&self, page: usize) -> u32 {
+    pub(crate) fn page_at(&self, page: usize) -> u32 {
         self.start + Self::LAYOUT.page * page as u32
     }
 
@@ -163,7 +171,10 @@ impl<D: FlashDriver, const UNITS: u32> Units<D, UNITS> {
     }
 
     pub(crate) fn read(&self, page: usize, unit: usize) -> Result<[u8; UNIT_BYTES], D::Error> {
-        let at = self.unit_at(page, unit);
+        self.read_at(self.unit_at(page, unit))
+    }
+
+    pub(crate) fn read_at(&self, at: u32) -> Result<[u8; UNIT_BYTES], D::Error> {
         let mut driver = self.driver.borrow_mut();
         let mut bytes = [0; UNIT_BYTES];
         if Self::READ_BYTES == UNIT_BYTES {
@@ -179,6 +190,10 @@ impl<D: FlashDriver, const UNITS: u32> Units<D, UNITS> {
     /// Programs a unit, and fills up what is left of its write unit with FFh.
     pub(crate) fn write(&mut self, page: usize, unit: usize, bytes: [u8; UNIT_BYTES]) -> Result<(), D::Error> {
         let at = self.unit_at(page, unit);
+        self.write_at(at, bytes)
+    }
+
+    pub(crate) fn write_at(&mut self, at: u32, bytes: [u8; UNIT_BYTES]) -> Result<(), D::Error> {
         let length = Self::LAYOUT.unit as usize;
         let driver = self.driver.get_mut();
         // The sizes are known when this is built, so that one of the three is left.

@@ -5,3 +5,4 @@ mod commands;
 mod endpoint;
 mod layouts;
 mod sessions;
+mod wavering;
