@@ -80,7 +80,8 @@ KEYBOARD = Rules(
     conditions={("reports", "plain"): LEFT_OUT},
     owed={("keyboard", "KeyboardOf::work"): "**Needs** the flash that the keyboard last started or restarted on, as the keyboard left it. "
                                 "Nothing checks it: [`FlashKeyboard`](crate::FlashKeyboard) holds both."},
-    hidden=frozenset({("keyboard", "KeyboardOf::start"), ("keyboard", "KeyboardOf::start_in")}),
+    hidden=frozenset({("keyboard", "KeyboardOf::start"), ("keyboard", "KeyboardOf::start_in"), ("control_ep", "ControlEp::received"),
+                      ("control_ep", "ControlEp::judged")}),
     calls={("keyboard", "KeyboardOf::start"): "KeyboardCalls", ("keyboard", "KeyboardOf::start_in"): "KeyboardCalls",
            ("layers", "LayerNo::known"): "Known", ("layers", "KeyNo::known"): "Known",
            ("debounce", "Scan::has"): "ScanCalls", ("debounce", "Scan::with"): "ScanCalls", ("debounce", "Debouncer::is_down"): "DebouncerCalls"},

@@ -1,7 +1,7 @@
 //! What comes in and goes out beside the packets themselves.
 
 ghost use Rattle.std.specs.Prelude.{◌≡◌};
-ghost use Rattle.control_ep.specs.Written.{as_answer};
+ghost use Rattle.control_ep.specs.Written.{as_answer, out_answer, as_step};
 
 use crate::Why;
 use arrayvec::ArrayVec;
@@ -46,6 +46,56 @@ impl InAnswer {
                 EpAnswer::Packet(packet)
             }
             InAnswer::Stall(why) => EpAnswer::Stall(why),
+        }
+    }
+}
+
+/// The answer to an OUT packet, which has no packet itself.
+#[derive(Clone, Copy, Debug, PartialEq, Eq)]
+#[must_use]
+pub enum OutAnswer {
+    /// The packet is acknowledged.
+    Ack,
+    /// Not now: nothing has changed, and the host tries again.
+    Nak,
+    /// The transfer is refused, and each further packet of it for the same reason.
+    Stall(Why),
+}
+
+impl OutAnswer {
+    /// Returns the answer as one to any packet.
+    pub fn answer(self) -> EpAnswer
+        ensures { result ≡ out_answer self }
+    {
+        match self {
+            OutAnswer::Ack => EpAnswer::Ack,
+            OutAnswer::Nak => EpAnswer::Nak,
+            OutAnswer::Stall(why) => EpAnswer::Stall(why),
+        }
+    }
+}
+
+/// What an OUT packet comes to, as `OutStep` says it, in fewer bytes.
+#[derive(Clone, Copy, Debug)]
+#[must_use]
+pub enum Received {
+    /// The packet is answered.
+    Answered(OutAnswer),
+    /// An output report: the packet is acknowledged, and these are the LEDs.
+    Leds(u8),
+    /// A feature report without its Report ID; the packet's answer is that of `ControlEp::judged`.
+    Offer([u8; 5]),
+}
+
+impl Received {
+    /// Returns the step.
+    pub(crate) fn step(self) -> OutStep
+        ensures { result ≡ as_step self }
+    {
+        match self {
+            Received::Answered(answer) => OutStep::Answered(answer.answer()),
+            Received::Leds(leds) => OutStep::Leds(leds),
+            Received::Offer(bytes) => OutStep::Offer(bytes),
         }
     }
 }

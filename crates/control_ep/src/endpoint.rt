@@ -5,7 +5,7 @@ ghost use Rattle.control_ep.specs.declared.answer.DeviceView.{DeviceView};
 ghost use Rattle.control_ep.specs.declared.answer.EpAnswer.{EpAnswer};
 ghost use Rattle.control_ep.specs.declared.answer.Effect.{Effect};
 ghost use Rattle.control_ep.specs.declared.answer.InAnswer.{InAnswer};
-ghost use Rattle.control_ep.specs.declared.answer.OutStep.{OutStep};
+ghost use Rattle.control_ep.specs.declared.answer.OutAnswer.{OutAnswer};
 ghost use Rattle.control_ep.specs.declared.why.Why.{Why};
 ghost use Rattle.control_ep.specs.Stage.{stage_in, progress_of};
 ghost use Rattle.control_ep.specs.Transfers.{Rest, Taking, Status, Stalled, FeatureData};
@@ -15,7 +15,10 @@ ghost use Rattle.control_ep.specs.Calls.{EpCall, Setup, Out, Checked, In, Settle
 use crate::data::ReadData;
 use crate::report::received_report;
 use crate::request::{HostReport, Request, Transfer};
-use crate::{DeviceReports, DeviceView, Effect, EpAnswer, InAnswer, OutStep, Verdict, Why};
+use crate::{
+    DeviceReports, DeviceView, Effect, EpAnswer, InAnswer, OutAnswer, OutStep, Received, Verdict,
+    Why,
+};
 use std::marker::Model;
 
 /// Where the transfer stands.
@@ -71,7 +74,7 @@ impl ControlEp {
     ghost use Rattle.control_ep.specs.Stage.{stage};
     ghost use Rattle.control_ep.specs.Moves.{begun, after_in, after_out, after_verdict, after_end};
     ghost use Rattle.control_ep.specs.Answers.{in_answer, in_effect, out_step, verdict_answer, IfNak, IfStall, IfAnswered, IfOffer};
-    ghost use Rattle.control_ep.specs.Written.{as_answer, HasRoom};
+    ghost use Rattle.control_ep.specs.Written.{as_answer, out_answer, as_step, HasRoom};
     ghost use Rattle.control_ep.specs.Relation.{is_offered};
     ghost use Rattle.control_ep.specs.representation.Relation.{Refines};
 
@@ -172,6 +175,21 @@ impl ControlEp {
         ensures stall { IfAnswered result (λ answer.
             IfStall answer (λ why. self.new ≡ Stalled why)) }
     {
+        self.received(packet).step()
+    }
+
+    /// Takes an OUT packet as `out` does, and answers in fewer bytes.
+    #[tactic(auto, using(crate::proofs::Next::next_out, crate::proofs::Next::offer_due))]
+    pub fn received(&mut self, packet: &[u8]) -> Received
+        ensures step { (past : List EpCall) → Refines past self.old
+            → as_step result ≡ out_step (stage past) packet.now }
+        ensures refines { (past : List EpCall) → Refines past self.old
+            → Refines (Out packet.now (as_step result) ∷ past) self.new }
+        ensures left { self.new ≡ after_out self.old (as_step result) }
+        ensures offer { IfOffer (as_step result) ((self.old ≡ Taking FeatureData) × (self.new ≡ self.old)) }
+        ensures stall { IfAnswered (as_step result) (λ answer.
+            IfStall answer (λ why. self.new ≡ Stalled why)) }
+    {
         self.answer_out(packet)
     }
 
@@ -185,6 +203,17 @@ impl ControlEp {
         ensures answer { result ≡ verdict_answer self.old verdict }
         ensures refines { (past : List EpCall) → Refines past self.old → IsTrue (is_offered past)
             → Refines (Checked verdict result ∷ past) self.new }
+        ensures left { self.new ≡ after_verdict self.old verdict }
+    {
+        self.judged(verdict).answer()
+    }
+
+    /// Answers the packet that `received` has just offered, as `verdict` does, in fewer bytes.
+    #[tactic(auto, using(crate::proofs::Next::next_verdict, crate::proofs::Next::feature_due))]
+    pub fn judged(&mut self, verdict: Verdict) -> OutAnswer
+        ensures answer { out_answer result ≡ verdict_answer self.old verdict }
+        ensures refines { (past : List EpCall) → Refines past self.old → IsTrue (is_offered past)
+            → Refines (Checked verdict (out_answer result) ∷ past) self.new }
         ensures left { self.new ≡ after_verdict self.old verdict }
     {
         self.apply_verdict(verdict)
@@ -271,68 +300,68 @@ impl ControlEp {
     }
 
     /// What an OUT packet comes to in this stage.
-    fn answer_out(&mut self, packet: &[u8]) -> OutStep
-        ensures step { result ≡ out_step self.old packet.now }
-        ensures left { self.new ≡ after_out self.old result }
+    fn answer_out(&mut self, packet: &[u8]) -> Received
+        ensures step { as_step result ≡ out_step self.old packet.now }
+        ensures left { self.new ≡ after_out self.old (as_step result) }
     {
         match self.stage {
             Stage::Sending if packet.is_empty() => {
                 self.stage = Stage::Rest;
-                OutStep::Answered(EpAnswer::Ack)
+                Received::Answered(OutAnswer::Ack)
             }
             Stage::Taking(report) => match received_report(report, packet) {
-                Ok(OutStep::Leds(leds)) => {
+                Ok(Received::Leds(leds)) => {
                     self.stage = Stage::Status(Effect::Nothing);
-                    OutStep::Leds(leds)
+                    Received::Leds(leds)
                 }
                 Ok(step) => step,
-                Err(why) => OutStep::Answered(self.stall(why)),
+                Err(why) => Received::Answered(self.stall(why)),
             },
-            Stage::Stalled(why) => OutStep::Answered(EpAnswer::Stall(why)),
-            Stage::Rest | Stage::Sending | Stage::Status(_) | Stage::Waiting => OutStep::Answered(
+            Stage::Stalled(why) => Received::Answered(OutAnswer::Stall(why)),
+            Stage::Rest | Stage::Sending | Stage::Status(_) | Stage::Waiting => Received::Answered(
                 self.stall(Why::WrongStage),
             ),
         }
     }
 
     /// The answer of a verdict in this stage.
-    fn apply_verdict(&mut self, verdict: Verdict) -> EpAnswer
-        ensures answer { result ≡ verdict_answer self.old verdict }
+    fn apply_verdict(&mut self, verdict: Verdict) -> OutAnswer
+        ensures answer { out_answer result ≡ verdict_answer self.old verdict }
         ensures left { self.new ≡ after_verdict self.old verdict }
     {
         match self.stage {
             Stage::Taking(HostReport::Feature) => self.apply_report_verdict(verdict),
-            Stage::Stalled(why) => EpAnswer::Stall(why),
+            Stage::Stalled(why) => OutAnswer::Stall(why),
             _ => self.stall(Why::WrongStage),
         }
     }
 
     /// The answer of a verdict on a feature report that is due.
-    fn apply_report_verdict(&mut self, verdict: Verdict) -> EpAnswer
+    fn apply_report_verdict(&mut self, verdict: Verdict) -> OutAnswer
         requires { self.old ≡ Taking FeatureData }
-        ensures answer { result ≡ verdict_answer self.old verdict }
+        ensures answer { out_answer result ≡ verdict_answer self.old verdict }
         ensures left { self.new ≡ after_verdict self.old verdict }
     {
         match verdict {
             Verdict::Done => {
                 self.stage = Stage::Status(Effect::Nothing);
-                EpAnswer::Ack
+                OutAnswer::Ack
             }
             Verdict::Working => {
                 self.stage = Stage::Waiting;
-                EpAnswer::Ack
+                OutAnswer::Ack
             }
-            Verdict::Busy => EpAnswer::Nak,
+            Verdict::Busy => OutAnswer::Nak,
             Verdict::Refused(why) => self.stall(why),
         }
     }
 
     /// Stalls the transfer.
-    fn stall(&mut self, why: Why) -> EpAnswer
-        ensures answer { result ≡ EpAnswer.Stall why }
+    fn stall(&mut self, why: Why) -> OutAnswer
+        ensures answer { result ≡ OutAnswer.Stall why }
         ensures stalled { self.new ≡ Stalled why }
     {
         self.stage = Stage::Stalled(why);
-        EpAnswer::Stall(why)
+        OutAnswer::Stall(why)
     }
 }

@@ -6,7 +6,7 @@ ghost use Rattle.layers.specs.Entries.{changed};
 ghost use Rattle.layers.specs.Keymaps.{HasEntries};
 ghost use Rattle.layers.specs.Usages.{has_key, has_consumer};
 ghost use Rattle.control_ep.specs.Answers.{in_answer, checked_answer, IfNak, IfStall};
-ghost use Rattle.control_ep.specs.Written.{as_answer, HasRoom};
+ghost use Rattle.control_ep.specs.Written.{as_answer, out_answer, HasRoom};
 ghost use Rattle.control_ep.specs.Transfers.{Stalled};
 ghost use Rattle.control_ep.specs.declared.answer.EpAnswer.{EpAnswer};
 ghost use Rattle.key_reports.specs.Past.{keys_after, consumer_after, answer_after};
@@ -27,7 +27,7 @@ ghost use Rattle.keyboard.specs.Conforming.{IsAnswered, MakesSuch};
 use crate::feature::{command_of_bytes, verdict_of};
 use crate::room::Room;
 use crate::shown::Shown;
-use control_ep::{ControlEp, Effect, EpAnswer, InAnswer, OutStep, Verdict, Why};
+use control_ep::{ControlEp, Effect, EpAnswer, InAnswer, OutAnswer, Received, Verdict, Why};
 use flash_model::NorFlash;
 use key_reports::{KeyReports, Protocol, Report, Scan};
 use keymap_store::{StoreOf, Work};
@@ -186,7 +186,7 @@ impl<D: Defaults> KeyboardOf<D> {
         // it still runs on its flash
         ensures runs_on { (image : List ℕ) → RunsOn D.defaults image self.old → RunsOn D.defaults image self.new }
     {
-        self.answer_out(packet)
+        self.answer_out(packet).answer()
     }
 
     /// Takes an IN packet of endpoint 0 (USB 2.0 section 8.5.3): the next packet of a read, the empty
@@ -359,26 +359,26 @@ impl<D: Defaults> KeyboardOf<D> {
 
     /// Takes an OUT packet and answers it. It stands apart since the folder of a proof of `out` would have
     /// the name of what the toolchain makes.
-    fn answer_out(&mut self, packet: &[u8]) -> EpAnswer
+    fn answer_out(&mut self, packet: &[u8]) -> OutAnswer
         ensures refines { (start : List ℕ) (past : List Call) → Refines D.defaults start past self.old
-            → Refines D.defaults start (Out packet.now result ∷ past) self.new }
+            → Refines D.defaults start (Out packet.now (out_answer result) ∷ past) self.new }
         ensures answer { (start : List ℕ) (past : List Call) → Refines D.defaults start past self.old
-            → IsAnswered D.defaults start past (Out packet.now result) }
+            → IsAnswered D.defaults start past (Out packet.now (out_answer result)) }
         ensures nak { (start : List ℕ) (past : List Call) → Refines D.defaults start past self.old
-            → IfNak result (self.new ≡ self.old) }
+            → IfNak (out_answer result) (self.new ≡ self.old) }
         ensures stall { (start : List ℕ) (past : List Call) → Refines D.defaults start past self.old
-            → IfStall result (λ why. self.new ≡ record self.old { ep = Stalled why }) }
+            → IfStall (out_answer result) (λ why. self.new ≡ record self.old { ep = Stalled why }) }
         ensures runs_on { (image : List ℕ) → RunsOn D.defaults image self.old → RunsOn D.defaults image self.new }
     {
-        match self.ep.out(packet) {
-            OutStep::Answered(answer) => answer,
-            OutStep::Leds(leds) => {
+        match self.ep.received(packet) {
+            Received::Answered(answer) => answer,
+            Received::Leds(leds) => {
                 self.leds = leds;
-                EpAnswer::Ack
+                OutAnswer::Ack
             }
-            OutStep::Offer(bytes) => {
+            Received::Offer(bytes) => {
                 let verdict = self.check_command(bytes);
-                self.ep.verdict(verdict)
+                self.ep.judged(verdict)
             }
         }
     }

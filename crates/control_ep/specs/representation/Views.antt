@@ -2,11 +2,14 @@
 use Rattle.shapes.specs.Shapes.{Bytes}
 use Rattle.std.specs.Prelude.{Option, Some, None, Result, Ok, Err}
 use Rattle.control_ep.specs.declared.why.Why.{Why}
+use Rattle.control_ep.specs.declared.answer.OutStep.{OutStep}
+use Rattle.control_ep.specs.declared.answer.Received.{Received}
 use Rattle.control_ep.specs.declared.endpoint.Stage as Kept
 use Rattle.control_ep.specs.declared.request.HostReport as KeptReport
 use Rattle.control_ep.specs.declared.request.Transfer as KeptTransfer
 use Rattle.control_ep.specs.declared.request.Request.{Request}
 use Rattle.control_ep.specs.representation.ReadData.{Reading}
+use Rattle.control_ep.specs.Written.{as_step}
 use Rattle.control_ep.specs.Transfers.{SetupFields, HostReport, LedsWithId, LedsAlone, FeatureData, Transfer, Reads, Takes, Sets, Stage, Rest, Sending, Taking, Waiting, Status, Stalled}
 
 abbrev pub fields_view : Request → SetupFields
@@ -39,3 +42,7 @@ stage_view (Kept.TheVariants.Taking report) read = Taking (report_view report)
 stage_view Kept.TheVariants.Waiting read = Waiting
 stage_view (Kept.TheVariants.Status effect) read = Status effect
 stage_view (Kept.TheVariants.Stalled why) read = Stalled why
+
+abbrev pub received_view : Result Received Why → Result OutStep Why
+received_view (Ok step) = Ok (as_step step)
+received_view (Err why) = Err why

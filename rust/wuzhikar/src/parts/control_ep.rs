@@ -28,7 +28,7 @@ mod report;
 mod request;
 mod why;
 
-pub use answer::{DeviceView, Effect, EpAnswer, InAnswer, OutStep, Verdict};
+pub use answer::{DeviceView, Effect, EpAnswer, InAnswer, OutAnswer, OutStep, Received, Verdict};
 pub use device::DeviceReports;
 pub use endpoint::ControlEp;
 pub use why::Why;

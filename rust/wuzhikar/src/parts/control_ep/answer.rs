@@ -46,6 +46,52 @@ impl InAnswer {
     }
 }
 
+/// The answer to an OUT packet, which has no packet itself.
+#[derive(Clone, Copy, Debug, PartialEq, Eq)]
+#[must_use]
+pub enum OutAnswer {
+    /// The packet is acknowledged.
+    Ack,
+    /// Not now: nothing has changed, and the host tries again.
+    Nak,
+    /// The transfer is refused, and each further packet of it for the same reason.
+    Stall(Why),
+}
+
+impl OutAnswer {
+    /// Returns the answer as one to any packet.
+    pub fn answer(self) -> EpAnswer {
+        match self {
+            OutAnswer::Ack => EpAnswer::Ack,
+            OutAnswer::Nak => EpAnswer::Nak,
+            OutAnswer::Stall(why) => EpAnswer::Stall(why),
+        }
+    }
+}
+
+/// What an OUT packet comes to, as `OutStep` says it, in fewer bytes.
+#[derive(Clone, Copy, Debug)]
+#[must_use]
+pub enum Received {
+    /// The packet is answered.
+    Answered(OutAnswer),
+    /// An output report: the packet is acknowledged, and these are the LEDs.
+    Leds(u8),
+    /// A feature report without its Report ID; the packet's answer is that of `ControlEp::judged`.
+    Offer([u8; 5]),
+}
+
+impl Received {
+    /// Returns the step.
+    pub(crate) fn step(self) -> OutStep {
+        match self {
+            Received::Answered(answer) => OutStep::Answered(answer.answer()),
+            Received::Leds(leds) => OutStep::Leds(leds),
+            Received::Offer(bytes) => OutStep::Offer(bytes),
+        }
+    }
+}
+
 /// What an OUT packet comes to.
 #[derive(Clone, Debug, PartialEq, Eq)]
 #[must_use]

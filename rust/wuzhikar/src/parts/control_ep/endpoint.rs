@@ -4,7 +4,10 @@
 use crate::parts::control_ep::data::ReadData;
 use crate::parts::control_ep::report::received_report;
 use crate::parts::control_ep::request::{HostReport, Request, Transfer};
-use crate::parts::control_ep::{DeviceReports, DeviceView, Effect, EpAnswer, InAnswer, OutStep, Verdict, Why};
+use crate::parts::control_ep::{
+    DeviceReports, DeviceView, Effect, EpAnswer, InAnswer, OutAnswer, OutStep, Received, Verdict,
+    Why,
+};
 
 /// Where the transfer stands.
 #[derive(Clone, Copy, Debug)]
@@ -107,6 +110,11 @@ impl ControlEp {
     /// with `ShortData` and `LongData` for another length than wLength, and `UnknownReport` for another
     /// Report ID; for the reason of a transfer that is stalled already; else with `WrongStage`.
     pub fn out(&mut self, packet: &[u8]) -> OutStep {
+        self.received(packet).step()
+    }
+
+    /// Takes an OUT packet as `out` does, and answers in fewer bytes.
+    pub(crate) fn received(&mut self, packet: &[u8]) -> Received {
         self.answer_out(packet)
     }
 
@@ -116,6 +124,11 @@ impl ControlEp {
     /// verdict is out of place: a `Stall` with the reason of a transfer that is stalled already, else with
     /// `WrongStage`, which stalls the transfer.
     pub fn verdict(&mut self, verdict: Verdict) -> EpAnswer {
+        self.judged(verdict).answer()
+    }
+
+    /// Answers the packet that `received` has just offered, as `verdict` does, in fewer bytes.
+    pub(crate) fn judged(&mut self, verdict: Verdict) -> OutAnswer {
         self.apply_verdict(verdict)
     }
 
@@ -174,55 +187,55 @@ impl ControlEp {
     }
 
     /// What an OUT packet comes to in this stage.
-    fn answer_out(&mut self, packet: &[u8]) -> OutStep {
+    fn answer_out(&mut self, packet: &[u8]) -> Received {
         match self.stage {
             Stage::Sending if packet.is_empty() => {
                 self.stage = Stage::Rest;
-                OutStep::Answered(EpAnswer::Ack)
+                Received::Answered(OutAnswer::Ack)
             }
             Stage::Taking(report) => match received_report(report, packet) {
-                Ok(OutStep::Leds(leds)) => {
+                Ok(Received::Leds(leds)) => {
                     self.stage = Stage::Status(Effect::Nothing);
-                    OutStep::Leds(leds)
+                    Received::Leds(leds)
                 }
                 Ok(step) => step,
-                Err(why) => OutStep::Answered(self.stall(why)),
+                Err(why) => Received::Answered(self.stall(why)),
             },
-            Stage::Stalled(why) => OutStep::Answered(EpAnswer::Stall(why)),
-            Stage::Rest | Stage::Sending | Stage::Status(_) | Stage::Waiting => OutStep::Answered(
+            Stage::Stalled(why) => Received::Answered(OutAnswer::Stall(why)),
+            Stage::Rest | Stage::Sending | Stage::Status(_) | Stage::Waiting => Received::Answered(
                 self.stall(Why::WrongStage),
             ),
         }
     }
 
     /// The answer of a verdict in this stage.
-    fn apply_verdict(&mut self, verdict: Verdict) -> EpAnswer {
+    fn apply_verdict(&mut self, verdict: Verdict) -> OutAnswer {
         match self.stage {
             Stage::Taking(HostReport::Feature) => self.apply_report_verdict(verdict),
-            Stage::Stalled(why) => EpAnswer::Stall(why),
+            Stage::Stalled(why) => OutAnswer::Stall(why),
             _ => self.stall(Why::WrongStage),
         }
     }
 
     /// The answer of a verdict on a feature report that is due.
-    fn apply_report_verdict(&mut self, verdict: Verdict) -> EpAnswer {
+    fn apply_report_verdict(&mut self, verdict: Verdict) -> OutAnswer {
         match verdict {
             Verdict::Done => {
                 self.stage = Stage::Status(Effect::Nothing);
-                EpAnswer::Ack
+                OutAnswer::Ack
             }
             Verdict::Working => {
                 self.stage = Stage::Waiting;
-                EpAnswer::Ack
+                OutAnswer::Ack
             }
-            Verdict::Busy => EpAnswer::Nak,
+            Verdict::Busy => OutAnswer::Nak,
             Verdict::Refused(why) => self.stall(why),
         }
     }
 
     /// Stalls the transfer.
-    fn stall(&mut self, why: Why) -> EpAnswer {
+    fn stall(&mut self, why: Why) -> OutAnswer {
         self.stage = Stage::Stalled(why);
-        EpAnswer::Stall(why)
+        OutAnswer::Stall(why)
     }
 }

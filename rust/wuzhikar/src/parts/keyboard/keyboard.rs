@@ -4,7 +4,7 @@
 use crate::parts::keyboard::feature::{command_of_bytes, verdict_of};
 use crate::parts::keyboard::room::Room;
 use crate::parts::keyboard::shown::Shown;
-use crate::parts::control_ep::{ControlEp, Effect, EpAnswer, InAnswer, OutStep, Verdict, Why};
+use crate::parts::control_ep::{ControlEp, Effect, EpAnswer, InAnswer, OutAnswer, Received, Verdict, Why};
 use wuzhikar_log::parts::flash_model::NorFlash;
 use crate::parts::key_reports::{KeyReports, Protocol, Report, Scan};
 use crate::parts::keymap_store::{StoreOf, Work};
@@ -115,7 +115,7 @@ impl<D: Defaults> KeyboardOf<D> {
     /// Failed, or is done where it changes nothing. `Nak` is for a feature report while a command
     /// works. Each other packet is answered by a `Stall`, and so is each further one of the transfer.
     pub fn out(&mut self, packet: &[u8]) -> EpAnswer {
-        self.answer_out(packet)
+        self.answer_out(packet).answer()
     }
 
     /// Takes an IN packet of endpoint 0 (USB 2.0 section 8.5.3): the next packet of a read, the empty
@@ -205,16 +205,16 @@ impl<D: Defaults> KeyboardOf<D> {
 
     /// Takes an OUT packet and answers it. It stands apart since the folder of a proof of `out` would have
     /// the name of what the toolchain makes.
-    fn answer_out(&mut self, packet: &[u8]) -> EpAnswer {
-        match self.ep.out(packet) {
-            OutStep::Answered(answer) => answer,
-            OutStep::Leds(leds) => {
+    fn answer_out(&mut self, packet: &[u8]) -> OutAnswer {
+        match self.ep.received(packet) {
+            Received::Answered(answer) => answer,
+            Received::Leds(leds) => {
                 self.leds = leds;
-                EpAnswer::Ack
+                OutAnswer::Ack
             }
-            OutStep::Offer(bytes) => {
+            Received::Offer(bytes) => {
                 let verdict = self.check_command(bytes);
-                self.ep.verdict(verdict)
+                self.ep.judged(verdict)
             }
         }
     }
