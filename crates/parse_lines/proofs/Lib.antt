@@ -1,4 +1,3 @@
 pub mod FieldLemmas
 pub mod HexLemmas
-pub mod PrintLemmas
 pub mod UsageLemmas
