@@ -50,9 +50,6 @@ pub served_stays : (reset now : Bool) (calls later : List EpCall) (x y z : ℕ) 
     → StaysOrReset now calls later x z
 served_stays reset now calls later x y z h1 h2 h3 = grind (arith, common_steps)
 
-pub adds_none : (calls : List EpCall) → Adds [] calls calls
-adds_none calls = ([], refl, refl)
-
 beside_more : (more since : List EpCall) → beside more ≡ [] → beside (more ++ since) ≡ beside since
 beside_more [] since e = refl
 beside_more (SetUp bytes ∷ more) since e = beside_more more since e

@@ -2,6 +2,7 @@ pub mod Next
 pub mod Linked
 pub mod Moving
 mod Addressing
+mod Looking
 pub mod Resting
 pub mod Behind
 pub mod Stating

@@ -6,7 +6,6 @@ use Rattle.usb_device.specs.declared.answer.EpAnswer.{EpAnswer}
 use Rattle.usb_device.specs.declared.answer.EpAnswer.TheVariants.{Ack, Nak, Packet, Stall}
 use Rattle.usb_device.specs.Calls.{EpCall, SetUp, Out, In, BusReset, Polled}
 use Rattle.usb_device.specs.Bus.{Bus, Met, Seen, InGot, InMode, Sends, Stalls, OutMode, Takes, StallsOut, Goes, looked, is_pending, is_out, is_write, setup_of, unless_pending, with_input, with_output}
-use Rattle.usb_device.specs.Bus1.{KeptUnless}
 use Rattle.usb_device.specs.Confirmed.{asked_of, TakesOnly, WasSent, AllKept}
 use Rattle.usb_device.specs.Transfers.{TransferState, Idle, Refused, Over, Reads, ReadDue, Sent, Closing, Closed, Opening, Writes, Keeps, Asking, Due, Status}
 use Rattle.usb_device.specs.representation.Link.{IsQuiet, IsClosed, ClosedIf, ConfirmsIf, StageLink, HasNoData, Link}
@@ -235,10 +234,6 @@ stood P reset setup calls h1 h2 = grind (arith, common_steps)
 
 pub kept_behind : (reset : Bool) (t : TransferState) (b : Bus) (calls : List EpCall) → Link t b calls → AllKept b.seen (behind_reset reset calls)
 kept_behind reset t b calls h1 = grind (arith, common_steps)
-
-pub same_behind : (reset : Bool) (setup : List ℕ) (calls : List EpCall) → KeptUnless reset calls (SetUp setup ∷ behind_reset reset calls)
-same_behind true setup calls = (SetUp setup ∷ BusReset ∷ [], refl, refl)
-same_behind false setup calls = (SetUp setup ∷ [], refl, refl)
 
 pub resets : (t : TransferState) (b : Bus) (calls : List EpCall) → Link t b calls → b.met.reset ≡ true → b.met.setup ≡ None → Link Idle (looked b) (BusReset ∷ calls)
 resets t b calls h e n =

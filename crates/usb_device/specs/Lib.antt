@@ -17,4 +17,5 @@ pub mod Bus1
 pub mod Reports
 pub mod Addresses
 pub mod Through
+pub mod Served
 pub mod representation

@@ -6,7 +6,8 @@ ghost use Rattle.usb_device.specs.Requests.{word_at};
 ghost use Rattle.usb_device.specs.Calls.{EpCall, SetUp, BusReset};
 ghost use Rattle.usb_device.specs.Bus.{is_pending, Bus, Goes, Sends, Takes, with_input, with_output, is_out, is_write, looked, mode_of, out_mode_of};
 ghost use Rattle.usb_device.specs.Addresses.{Stays, StaysOrReset};
-ghost use Rattle.usb_device.specs.Bus1.{Adds, KeptOrReset, KeptUnless};
+ghost use Rattle.usb_device.specs.Bus1.{KeptOrReset};
+ghost use Rattle.usb_device.specs.Served.{Grows, Asks, AsksNow, Looks, handed_on};
 ghost use Rattle.usb_device.specs.Transfers.{is_done, is_over, TransferState, Idle, Refused, Over, ReadDue, Closing, Opening, Asking, Due, IsOpen, WasAsked, last_0, Rests, NothingWithheld0};
 ghost use Rattle.usb_device.specs.representation.Link.{Link, Ready, IsBegun, ended, on_taken, met_view, transfer_view};
 
@@ -110,6 +111,7 @@ fn ended(answer: EpAnswer) -> Transfer
 fn open<C: Controller>(controller: &mut C)
     ensures set { (steps : List Bus) × (mid : Bus) × Goes steps (C.bus controller.old) mid × (C.bus controller.new ≡ with_output mid Takes) }
     ensures stays { Stays (C.bus controller.old) (C.bus controller.new) (C.address_of controller.old) (C.address_of controller.new) }
+    ensures grows { Grows (C.bus controller.old).seen (C.bus controller.new).seen }
 {
     controller.output_0(Output::Take);
 }
@@ -119,6 +121,7 @@ fn hand_over<C: Controller>(packet: ArrayVec<u8, 8>, controller: &mut C)
     ensures set { (steps : List Bus) × (mid : Bus) × Goes steps (C.bus controller.old) mid
         × (C.bus controller.new ≡ with_input mid (Sends packet.items false)) }
     ensures stays { Stays (C.bus controller.old) (C.bus controller.new) (C.address_of controller.old) (C.address_of controller.new) }
+    ensures grows { Grows (C.bus controller.old).seen (C.bus controller.new).seen }
 {
     controller.input_0(Input::Packet(packet));
 }
@@ -144,7 +147,8 @@ impl ControlBuffers {
             → NothingWithheld0 self.old (C.bus controller.old) calls
             → (later : List EpCall) × E.refines later device.new × Link self.new (C.bus controller.new) later
             × NothingWithheld0 self.new (C.bus controller.new) later × KeptOrReset calls later
-            × StaysOrReset (C.bus controller.new).met.reset calls later (C.address_of controller.old) (C.address_of controller.new) }
+            × StaysOrReset (C.bus controller.new).met.reset calls later (C.address_of controller.old) (C.address_of controller.new)
+            × Looks self.new (C.bus controller.old) (C.bus controller.new) calls later }
         ensures kept { (from : E) → E.keeps from device.old → E.keeps from device.new }
     {
         let met = controller.waiting();
@@ -179,7 +183,7 @@ impl ControlBuffers {
         ensures linked { (b : Bus) (calls : List EpCall) → E.refines calls device.old → Link self.old b calls → met_view met ≡ b.met
             → NothingWithheld0 self.old b calls
             → (later : List EpCall) × E.refines later device.new × Link self.new (looked b) later × Ready self.new (looked b) later
-            × KeptUnless b.met.reset calls later }
+            × Asks (handed_on b.met calls) later }
         ensures kept { (from : E) → E.keeps from device.old → E.keeps from device.new }
     {
         match met.setup {
@@ -199,13 +203,13 @@ impl ControlBuffers {
     }
 
     /// Takes what was met in the transfer under way.
-    #[tactic(auto, using(crate::proofs::Addressing::adds_none))]
+    #[tactic(auto, using(crate::proofs::Looking::asks_none))]
     fn follow<E: Endpoints>(&mut self, taken: bool, out: Option<ArrayVec<u8, 8>>, device: &mut E)
         ensures linked { (b : Bus) (calls : List EpCall) → E.refines calls device.old → Link self.old b calls
             → b.met.reset ≡ false → b.met.setup ≡ None → b.met.out ≡ option_map (λ p. p.items) out → b.met.taken ≡ taken
             → Rests self.old b calls
             → (later : List EpCall) × E.refines later device.new × Link self.new (looked b) later × Ready self.new (looked b) later
-            × Adds [] calls later }
+            × Asks calls later }
         ensures kept { (from : E) → E.keeps from device.old → E.keeps from device.new }
     {
         match out {
@@ -232,7 +236,7 @@ impl ControlBuffers {
     fn close<E: Endpoints>(&mut self, packet: ArrayVec<u8, 8>, device: &mut E)
         ensures linked { (b : Bus) (calls : List EpCall) → E.refines calls device.old → is_pending b.met ≡ false → Link Closing b calls
             → (later : List EpCall) × E.refines later device.new × Link self.new b later × Ready self.new b later
-            × Adds [] calls later }
+            × Asks calls later }
         ensures kept { (from : E) → E.keeps from device.old → E.keeps from device.new }
     {
         let answer = device.out(packet.as_slice());
@@ -254,14 +258,15 @@ impl ControlBuffers {
     }
 
     /// Does what is due.
-    #[tactic(auto, using(crate::proofs::Addressing::stays_still, crate::proofs::Addressing::adds_none))]
+    #[tactic(auto, using(crate::proofs::Addressing::stays_still, crate::proofs::Looking::grows_none, crate::proofs::Looking::asks_nothing))]
     fn go_on<E: Endpoints, C: Controller>(&mut self, device: &mut E, controller: &mut C)
         ensures linked { (calls : List EpCall) → E.refines calls device.old → Link self.old (C.bus controller.old) calls
             → Ready self.old (C.bus controller.old) calls
             → (later : List EpCall) × E.refines later device.new × Link self.new (C.bus controller.new) later
-            × NothingWithheld0 self.new (C.bus controller.new) later × Adds [] calls later }
+            × NothingWithheld0 self.new (C.bus controller.new) later × AsksNow self.new calls later }
         ensures kept { (from : E) → E.keeps from device.old → E.keeps from device.new }
         ensures stays { Stays (C.bus controller.old) (C.bus controller.new) (C.address_of controller.old) (C.address_of controller.new) }
+        ensures grows { Grows (C.bus controller.old).seen (C.bus controller.new).seen }
     {
         match &self.transfer {
             Transfer::Opening => {
@@ -293,23 +298,25 @@ impl ControlBuffers {
     fn ask<E: Endpoints, C: Controller>(&mut self, device: &mut E, controller: &mut C)
         ensures linked { (calls : List EpCall) → E.refines calls device.old → Link Due (C.bus controller.old) calls
             → (later : List EpCall) × E.refines later device.new × Link self.new (C.bus controller.new) later
-            × NothingWithheld0 self.new (C.bus controller.new) later × Adds [] calls later }
+            × NothingWithheld0 self.new (C.bus controller.new) later × AsksNow self.new calls later }
         ensures kept { (from : E) → E.keeps from device.old → E.keeps from device.new }
         ensures stays { Stays (C.bus controller.old) (C.bus controller.new) (C.address_of controller.old) (C.address_of controller.new) }
+        ensures grows { Grows (C.bus controller.old).seen (C.bus controller.new).seen }
     {
         open(controller);
         self.confirm(device, controller);
     }
 
     /// Hands over the empty packet of the status stage once the device gives it.
-    #[tactic(auto, using(crate::proofs::Addressing::stays_still))]
+    #[tactic(auto, using(crate::proofs::Addressing::stays_still, crate::proofs::Looking::grows_none))]
     fn confirm<E: Endpoints, C: Controller>(&mut self, device: &mut E, controller: &mut C)
         ensures linked { (calls : List EpCall) → E.refines calls device.old → Link Due (C.bus controller.old) calls
             → (is_pending (C.bus controller.old).met ≡ false → IsOpen (C.bus controller.old))
             → (later : List EpCall) × E.refines later device.new × Link self.new (C.bus controller.new) later
-            × NothingWithheld0 self.new (C.bus controller.new) later × Adds [] calls later }
+            × NothingWithheld0 self.new (C.bus controller.new) later × AsksNow self.new calls later }
         ensures kept { (from : E) → E.keeps from device.old → E.keeps from device.new }
         ensures stays { Stays (C.bus controller.old) (C.bus controller.new) (C.address_of controller.old) (C.address_of controller.new) }
+        ensures grows { Grows (C.bus controller.old).seen (C.bus controller.new).seen }
     {
         match device.in_packet() {
             EpAnswer::Packet(packet) => {
@@ -327,6 +334,7 @@ impl ControlBuffers {
         ensures reported { (calls : List EpCall) → WasAsked (last_0 calls) → NothingWithheld0 Over (C.bus controller.new) calls }
         ensures linked { (calls : List EpCall) → Link Refused (C.bus controller.old) calls → Link Over (C.bus controller.new) calls }
         ensures stays { Stays (C.bus controller.old) (C.bus controller.new) (C.address_of controller.old) (C.address_of controller.new) }
+        ensures grows { Grows (C.bus controller.old).seen (C.bus controller.new).seen }
     {
         self.transfer = Transfer::Over;
         controller.input_0(Input::Stall);
@@ -334,13 +342,14 @@ impl ControlBuffers {
     }
 
     /// Hands over the next packet of a read.
-    #[tactic(auto, using(crate::proofs::Addressing::stays_still))]
+    #[tactic(auto, using(crate::proofs::Addressing::stays_still, crate::proofs::Looking::grows_none))]
     fn read<E: Endpoints, C: Controller>(&mut self, left: u16, device: &mut E, controller: &mut C)
         ensures linked { (calls : List EpCall) → E.refines calls device.old → Link (ReadDue left) (C.bus controller.old) calls
             → (later : List EpCall) × E.refines later device.new × Link self.new (C.bus controller.new) later
-            × NothingWithheld0 self.new (C.bus controller.new) later × Adds [] calls later }
+            × NothingWithheld0 self.new (C.bus controller.new) later × AsksNow self.new calls later }
         ensures kept { (from : E) → E.keeps from device.old → E.keeps from device.new }
         ensures stays { Stays (C.bus controller.old) (C.bus controller.new) (C.address_of controller.old) (C.address_of controller.new) }
+        ensures grows { Grows (C.bus controller.old).seen (C.bus controller.new).seen }
     {
         match device.in_packet() {
             EpAnswer::Packet(packet) => {

@@ -6,6 +6,7 @@ ghost use Rattle.usb_device.specs.Addresses.{Addressed, Tells};
 ghost use Rattle.usb_device.specs.Bus.{Bus, Goes};
 ghost use Rattle.usb_device.specs.Bus1.{KeptOrReset, blank, room_of};
 ghost use Rattle.usb_device.specs.Requests.{Lent};
+ghost use Rattle.usb_device.specs.Served.{Looks};
 ghost use Rattle.usb_device.specs.Events.{Event, SuspendCame, ResumeCame, WakeAsked};
 ghost use Rattle.usb_device.specs.States.{wakes_by};
 ghost use Rattle.usb_device.specs.Through.{calls_of};
@@ -149,7 +150,8 @@ impl<'a, E: Endpoints, B: Buffers> UsbDevice<'a, E, B> {
             × NothingWithheld (may_send (is_ready self.new.device.layer.endpoint) self.new.device.reports.left) (room_of B.two) self.new.device.reports
             (B.bus self.new.device.buffers) (calls_of since)
             × Addressed (is_done self.new.control) self.new.device.layer.due (C.bus controller.new).met.reset calls later (C.address_of controller.old) (C.address_of controller.new)
-            × KeptOrReset calls later }
+            × KeptOrReset calls later
+            × Looks self.new.control (C.bus controller.old) (C.bus controller.new) calls later }
         ensures kept { (from : E) → E.keeps from self.old.device.behind → E.keeps from self.new.device.behind }
     {
         self.control.serve(&mut self.device, controller);

@@ -2,6 +2,7 @@ use Rattle.std.proofs.Common.{refl}
 use Rattle.usb_device.specs.Transfers.{Due}
 use Rattle.usb_device.proofs.Moving.{reopened}
 use Rattle.usb_device.proofs.Addressing.{stays_then}
+use Rattle.usb_device.proofs.Looking.{grows_then}
 use Rattle.usb_device.proofs.Resting.{opens}
 use Rattle.usb_device.proofs.control_buffers.ControlBuffers.ask.Goals as goal
 
@@ -18,3 +19,7 @@ returns-clause-stays g c =
     let mid = c.open.new.controller in
     let new = c.confirm.new.controller in
     stays_then (b old) (b mid) (b new) (a old) (a mid) (a new) c.open.ensures.stays c.confirm.ensures.stays
+
+pub returns-clause-grows : goal.returns-clause-grows
+returns-clause-grows g c =
+    let b = g.C.Controller.bus in grows_then (b c.args.controller.now).seen (b c.open.new.controller).seen (b c.confirm.new.controller).seen c.open.ensures.grows c.confirm.ensures.grows

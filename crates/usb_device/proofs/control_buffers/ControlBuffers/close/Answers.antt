@@ -12,4 +12,4 @@ returns-clause-linked g c = λ b calls s n h.
     let later = Out p c.out-answer.result ∷ calls in
     let R : TransferState → Type 0 = λ x. Ready x b later in
     let t = transfer_view c.ended-self-inside.result in
-    (later, c.out-answer.ensures.refines calls s, closes t b p c.out-answer.result calls n h, subst R (sym c.ended-self-inside.ensures) (ended_ready b p c.out-answer.result calls), (Out p c.out-answer.result ∷ [], refl, refl))
+    (later, c.out-answer.ensures.refines calls s, closes t b p c.out-answer.result calls n h, subst R (sym c.ended-self-inside.ensures) (ended_ready b p c.out-answer.result calls), (Out p c.out-answer.result ∷ [], refl, tt))

@@ -3,6 +3,7 @@ use Rattle.usb_device.specs.Calls.{In}
 use Rattle.usb_device.specs.Transfers.{Refused, Reads, ReadDue}
 use Rattle.usb_device.proofs.Moving.{read_answer, read_hands}
 use Rattle.usb_device.proofs.Addressing.{stays_then}
+use Rattle.usb_device.proofs.Looking.{grows_then}
 use Rattle.usb_device.proofs.Resting.{hands, opens}
 use Rattle.usb_device.proofs.control_buffers.ControlBuffers.read.Goals as goal
 
@@ -19,18 +20,18 @@ returns-after-len-eq8-clause-linked g c = λ calls s h.
       read_hands o.0 o.1 _ _ i.0 i.1 _ left p after o.2 o.3 i.2 i.3 (read_answer c.args.left (Reads left) _ c.in_packet.result calls h),
       λ q. (let held = hands i.0 (g.C.Controller.bus c.open.new.controller) i.1 (g.C.Controller.bus c.hand_over.new.controller) p i.2 i.3 opened q in
           ((p, rw c.in-Packet.is refl, held.0), held.1)),
-      (In c.in_packet.result ∷ [], refl, refl),
+      (In c.in_packet.result ∷ [], refl, tt, tt),
     )
 
 pub returns-in-Nak-clause-linked : goal.returns-in-Nak-clause-linked
 returns-in-Nak-clause-linked g c = λ calls s h.
-    (In c.in_packet.result ∷ calls, c.in_packet.ensures.refines calls s, read_answer c.args.left (ReadDue c.args.left) _ c.in_packet.result calls h, λ q. rw c.in-Nak.is refl, (In c.in_packet.result ∷ [], refl, refl))
+    (In c.in_packet.result ∷ calls, c.in_packet.ensures.refines calls s, read_answer c.args.left (ReadDue c.args.left) _ c.in_packet.result calls h, λ q. rw c.in-Nak.is refl, (In c.in_packet.result ∷ [], refl, tt, rw c.in-Nak.is refl))
 
 pub returns-in-Ack-clause-linked : goal.returns-in-Ack-clause-linked
 returns-in-Ack-clause-linked g c = λ calls s h.
     let after = In c.in_packet.result ∷ calls in
     let r = c.refuse.ensures in
-    (after, c.in_packet.ensures.refines calls s, rw r.over (r.linked after (read_answer c.args.left Refused _ c.in_packet.result calls h)), rw r.over (r.reported after tt), (In c.in_packet.result ∷ [], refl, refl))
+    (after, c.in_packet.ensures.refines calls s, rw r.over (r.linked after (read_answer c.args.left Refused _ c.in_packet.result calls h)), rw r.over (r.reported after tt), rw r.over (In c.in_packet.result ∷ [], refl, tt, tt))
 
 pub returns-after-len-eq8-clause-stays : goal.returns-after-len-eq8-clause-stays
 returns-after-len-eq8-clause-stays g c =
@@ -40,3 +41,7 @@ returns-after-len-eq8-clause-stays g c =
     let mid = c.open.new.controller in
     let new = c.hand_over.new.controller in
     stays_then (b old) (b mid) (b new) (a old) (a mid) (a new) c.open.ensures.stays c.hand_over.ensures.stays
+
+pub returns-after-len-eq8-clause-grows : goal.returns-after-len-eq8-clause-grows
+returns-after-len-eq8-clause-grows g c =
+    let b = g.C.Controller.bus in grows_then (b c.args.controller.now).seen (b c.open.new.controller).seen (b c.hand_over.new.controller).seen c.open.ensures.grows c.hand_over.ensures.grows

@@ -1,10 +1,10 @@
-use Rattle.std.proofs.Common.{Bool, subst, List, [], ◌∷◌, Some, None, true, false, refl, sym, ap, ◌∙◌, ◌≡◌}
+use Rattle.std.proofs.Common.{List, ◌∷◌, Some, None, true, false, refl, sym, ap, ◌∙◌, ◌≡◌}
 use Rattle.usb_device.specs.Calls.{EpCall, SetUp, BusReset}
 use Rattle.usb_device.specs.Bus.{Met, looked}
-use Rattle.usb_device.specs.Bus1.{KeptUnless}
 use Rattle.usb_device.specs.representation.Link.{transfer_view}
-use Rattle.usb_device.proofs.Moving.{begins, behind_reset, stood, kept_behind, same_behind, resets, not_pending}
+use Rattle.usb_device.proofs.Moving.{begins, behind_reset, stood, kept_behind, resets, not_pending}
 use Rattle.usb_device.proofs.Resting.{begun_ready}
+use Rattle.usb_device.proofs.Looking.{set_up_asks, reset_asks, still_asks}
 use Rattle.usb_device.proofs.control_buffers.ControlBuffers.take.Goals as goal
 
 pub returns-in-Some-clause-linked : goal.returns-in-Some-clause-linked
@@ -20,20 +20,18 @@ returns-in-Some-clause-linked g c = λ b calls s h e r.
       stood S b.met.reset setup calls (λ y. c.hand_on.ensures.behind_a_reset calls (q ∙ y) s) (λ n. c.hand_on.ensures.alone calls (q ∙ n) s),
       begins c.args.self.now (transfer_view t) b calls before setup h n (kept_behind b.met.reset c.args.self.now b calls h) f.write f.no_data,
       begun_ready (transfer_view t) (looked b) (SetUp setup ∷ before) f.begun,
-      same_behind b.met.reset setup calls,
+      set_up_asks b.met setup calls n,
     )
 
 pub returns-then-met-clause-linked : goal.returns-then-met-clause-linked
 returns-then-met-clause-linked g c = λ b calls s h e r.
     let n : b.met.setup ≡ None = sym (ap (λ (m : Met). m.setup) e) ∙ c.in-None.is in
     let q : b.met.reset ≡ true = sym (ap (λ (m : Met). m.reset) e) ∙ c.if-met.true in
-    let K : Bool → Type 0 = λ x. KeptUnless x calls (BusReset ∷ calls) in
-    (BusReset ∷ calls, c.bus_reset.ensures.refines calls s, resets c.args.self.now b calls h q n, refl, subst K (sym q) (BusReset ∷ [], refl, refl))
+    (BusReset ∷ calls, c.bus_reset.ensures.refines calls s, resets c.args.self.now b calls h q n, refl, reset_asks b.met calls n q)
 
 pub returns-else-met-clause-linked : goal.returns-else-met-clause-linked
 returns-else-met-clause-linked g c = λ b calls s h e r.
     let n : b.met.setup ≡ None = sym (ap (λ (m : Met). m.setup) e) ∙ c.in-None.is in
     let q : b.met.reset ≡ false = sym (ap (λ (m : Met). m.reset) e) ∙ c.if-met.false in
     let f = c.follow.ensures.linked b calls s h q n (sym (ap (λ (m : Met). m.out) e)) (sym (ap (λ (m : Met). m.taken) e)) (r (not_pending b.met q n)) in
-    let K : Bool → Type 0 = λ x. KeptUnless x calls f.0 in
-    (f.0, f.1, f.2, f.3, subst K (sym q) f.4)
+    (f.0, f.1, f.2, f.3, still_asks b.met calls f.0 n q f.4)

@@ -9,7 +9,9 @@ use Rattle.usb_device.specs.representation.Layered.{is_ready}
 use Rattle.usb_device.proofs.Layering.{polled_once}
 use Rattle.usb_device.proofs.Linked.{goes}
 use Rattle.usb_device.proofs.Resting.{rest_goes}
+use Rattle.usb_device.specs.Served.{AsksNow, handed_on}
 use Rattle.usb_device.proofs.Addressing.{addressed}
+use Rattle.usb_device.proofs.Looking.{grows_then, grows_goes}
 use Rattle.usb_device.proofs.usb_device.UsbDevice.serve.Goals as goal
 
 pub returns-clause-runs : goal.returns-clause-runs
@@ -23,6 +25,7 @@ returns-clause-runs g c = λ calls lent past h.
     let N : TransferState → Type 0 = λ x. NothingWithheld0 x (g.C.Controller.bus c.serve.new.controller) a.0 in
     let tell = c.tell.ensures.met in
     let old = g.C.Controller.bus c.serve.new.controller in
+    let A : TransferState → Type 0 = λ x. AsksNow x (handed_on a.6.1.met calls) a.0 in
     let linked = goes tell.0 c.settle.new.self.control old bus a.0 tell.1 (subst T (sym c.settle.ensures.same) a.2) in
     let rests = rest_goes tell.0 c.settle.new.self.control old bus a.0 tell.1 (subst N (sym c.settle.ensures.same) a.3) in
     let E : Endpoint1 → Type 0 = λ x. NothingWithheld (may_send (is_ready x) c.settle.new.self.device.reports.left) (room_of g.B.Buffers.two) c.serve_reports.new.self.reports b (calls_of r.0) in
@@ -36,6 +39,13 @@ returns-clause-runs g c = λ calls lent past h.
       subst L (sym c.serve_reports.ensures.waits) (subst E (sym c.serve_reports.ensures.same) r.2),
       addressed (is_done c.settle.new.self.control) c.serve_reports.new.self.layer.due old bus calls a.0 (g.C.Controller.address_of c.args.controller.now) (g.C.Controller.address_of c.serve.new.controller) (g.C.Controller.address_of c.tell.new.controller) c.tell.ensures.reported a.5,
       a.4,
+      (
+        a.6.0,
+        a.6.1,
+        a.6.2,
+        grows_then a.6.1.seen old.seen bus.seen a.6.3 (grows_goes tell.0 old bus tell.1),
+        subst A (sym c.settle.ensures.same) a.6.4,
+      ),
     )
 
 pub returns-clause-kept : goal.returns-clause-kept
