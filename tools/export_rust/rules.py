@@ -171,7 +171,7 @@ USB = Rules(
                                  ("and is a premise of `theorems::stored_until_written`.", "and is a premise of the guarantee.")],
           ("usb_device", "control_buffers"): [("confirmed by the device: `theorems::seen_is_confirmed` of the link that the call keeps. And", "confirmed by the device. And")],
           ("usb_device", "usb_device"): [("the device behind (`theorems::confirmed_on_the_bus`), and the", "the device behind, and the"),
-                                         ("in their order (`theorems::reports_are_got_in_order`). Nothing", "in their order. Nothing")]},
+                                         ("in their order (`theorems::reports_are_got_in_order`). It is", "in their order. It is")]},
 )
 
 # All crates of plain Rust that are made, lowest first.

@@ -14,6 +14,7 @@ pub mod Characters
 pub mod Places
 pub mod Scans
 pub mod Layering
+mod Pausing
 pub mod Wholes
 pub mod Receiving
 mod Playing

@@ -18,4 +18,5 @@ pub mod Reports
 pub mod Addresses
 pub mod Through
 pub mod Served
+pub mod Pauses
 pub mod representation

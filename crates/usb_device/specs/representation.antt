@@ -7,6 +7,7 @@ pub mod Waited
 pub mod Whole
 pub mod WholeReads
 pub mod Layered
+pub mod Paused
 pub mod Played
 pub mod Played0
 pub mod Forgetting

@@ -1,6 +1,6 @@
 //! A device behind its USB device layer, with endpoint 1 behind buffers, as one device.
 
-ghost use Rattle.std.specs.Prelude.{◌≡◌, ◌&&◌, ◌-◌, ◌∷◌, [], false, List, None, Option};
+ghost use Rattle.std.specs.Prelude.{◌≡◌, ◌≤◌, ◌&&◌, ◌-◌, ◌∷◌, ◌++◌, [], false, max, List, None, Option};
 ghost use Rattle.std.specs.Option.{option_map};
 ghost use Rattle.usb_device.specs.declared.report_buffers.Course.TheVariants.{Rests};
 ghost use Rattle.usb_device.specs.Steps.{polled_of};
@@ -10,10 +10,12 @@ ghost use Rattle.usb_device.specs.declared.answer.Endpoint1.{Endpoint1};
 ghost use Rattle.usb_device.specs.Calls.{EpCall, Polled, Out};
 ghost use Rattle.usb_device.specs.Bus1.{no_polls, room_of, blank, OnlyReported};
 ghost use Rattle.usb_device.specs.Requests.{Lent};
-ghost use Rattle.usb_device.specs.Events.{Event, SuspendCame, ResumeCame, WakeAsked};
+ghost use Rattle.usb_device.specs.Events.{Event, OutCame, SuspendCame, ResumeCame, WakeAsked};
+ghost use Rattle.usb_device.specs.Pauses.{ArePolls, HasNone, ServesReports};
 ghost use Rattle.usb_device.specs.Through.{calls_of};
 ghost use Rattle.usb_device.specs.Waits.{Moment, Scanned, Released};
 ghost use Rattle.usb_device.specs.representation.Waited.{Waited};
+ghost use Rattle.usb_device.specs.representation.Paused.{GoesOn};
 ghost use Rattle.usb_device.specs.representation.Link1.{Link1, InStep, NothingWithheld, may_send};
 ghost use Rattle.usb_device.specs.representation.Layered.{Layered, PolledOnce, endpoint_set, with_state, is_ready, report_waits};
 
@@ -47,6 +49,8 @@ fn follow<B: Buffers>(change: Option<Change>, buffers: &mut B, reports: &mut Rep
     ensures linked { (calls : List EpCall) → Link1 reports.old (B.bus buffers.old) calls → Link1 reports.new (B.bus buffers.new) calls }
     ensures reported { (states : List Endpoint1) → InStep states (B.bus buffers.old)
         → InStep (with_state (endpoint_set change) states) (B.bus buffers.new) }
+    ensures waits { endpoint_set change ≡ None → reports.new.left ≡ reports.old.left }
+    ensures most { reports.new.left ≤ max reports.old.left 50 }
 {
     match endpoint_set(change) {
         Some(state) => {
@@ -177,6 +181,10 @@ impl<'a, E: Endpoints, B: Buffers> Device<'a, E, B> {
             × NothingWithheld (may_send (is_ready self.old.layer.endpoint) self.old.reports.left) (room_of B.two) self.new.reports (B.bus self.new.buffers) (calls_of later)
             × PolledOnce past later × (may_send (is_ready self.old.layer.endpoint) self.old.reports.left ≡ false
             → (later ≡ past) × OnlyReported (B.bus self.old.buffers) (B.bus self.new.buffers)) }
+        ensures asked { (lent : Lent) (past : List Event)
+            → Layered E.refines lent past self.old.layer self.old.behind self.old.reports (B.bus self.old.buffers)
+            → (asked : List Event) × Layered E.refines lent (asked ++ past) self.new.layer self.new.behind self.new.reports (B.bus self.new.buffers)
+            × ArePolls asked × ServesReports (may_send (is_ready self.old.layer.endpoint) self.old.reports.left) (B.bus self.new.buffers) asked }
         ensures waits { self.new.reports.left ≡ self.old.reports.left }
         ensures same { self.new.layer.endpoint ≡ self.old.layer.endpoint }
         ensures kept { (from : E) → E.keeps from self.old.behind → E.keeps from self.new.behind }
@@ -214,6 +222,10 @@ impl<'a, E: Endpoints, B: Buffers> Device<'a, E, B> {
             → (lent : Lent) × (past : List Event)
             × Layered E.refines lent past self.new.layer self.new.behind self.new.reports (B.bus self.new.buffers)
             × (no_polls (calls_of past) ≡ no_polls (Out packet.now result ∷ calls)) }
+        ensures met { (lent : Lent) (past : List Event)
+            → Layered E.refines lent past self.old.layer self.old.behind self.old.reports (B.bus self.old.buffers)
+            → Layered E.refines lent (OutCame packet.now result ∷ past) self.new.layer self.new.behind self.new.reports (B.bus self.new.buffers) }
+        ensures waits { self.new.reports.left ≡ self.old.reports.left }
         ensures kept { (from : E) → E.keeps from self.old.behind → E.keeps from self.new.behind }
     {
         self.layer.out_packet(packet, &mut self.behind)
@@ -225,6 +237,10 @@ impl<'a, E: Endpoints, B: Buffers> Device<'a, E, B> {
             → Layered E.refines lent past self.old.layer self.old.behind self.old.reports (B.bus self.old.buffers)
             → (later : List Event) × Layered E.refines lent later self.new.layer self.new.behind self.new.reports (B.bus self.new.buffers)
             × (self.new.reports.course ≡ Rests → (before : List EpCall) × (calls_of later ≡ Polled None ∷ before)) × PolledOnce past later }
+        ensures asked { (lent : Lent) (past : List Event)
+            → Layered E.refines lent past self.old.layer self.old.behind self.old.reports (B.bus self.old.buffers)
+            → (asked : List Event) × Layered E.refines lent (asked ++ past) self.new.layer self.new.behind self.new.reports (B.bus self.new.buffers)
+            × ArePolls asked × (self.new.reports.course ≡ Rests → HasNone asked) }
         ensures waits { self.new.reports.left ≡ self.old.reports.left }
         ensures same { self.new.layer.endpoint ≡ self.old.layer.endpoint }
         ensures kept { (from : E) → E.keeps from self.old.behind → E.keeps from self.new.behind }
@@ -242,7 +258,8 @@ impl<'a, E: Endpoints, B: Buffers> Endpoints for Device<'a, E, B> {
     ghost refines = { λ calls d. (lent : Lent) × (past : List Event) × Layered E.refines lent past d.layer d.behind d.reports (B.bus d.buffers)
         × (no_polls (calls_of past) ≡ no_polls calls) };
 
-    ghost keeps = { λ from d. E.keeps from.behind d.behind };
+    ghost keeps = { λ from d. ((base : E) → E.keeps base from.behind → E.keeps base d.behind)
+        × GoesOn E.refines from.layer from.behind from.reports (B.bus from.buffers) d.layer d.behind d.reports (B.bus d.buffers) };
 
     fn setup(&mut self, packet: [u8; 8]) {
         self.layer.setup(packet, &mut self.behind);

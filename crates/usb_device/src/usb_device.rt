@@ -1,12 +1,13 @@
 //! A device with its layer and its buffers, behind a controller: what a loop calls.
 
-ghost use Rattle.std.specs.Prelude.{◌≡◌, ◌-◌, ◌∷◌, [], false, ℕ, List};
+ghost use Rattle.std.specs.Prelude.{◌≡◌, ◌≤◌, ◌-◌, ◌∷◌, ◌++◌, [], true, false, ℕ, List};
 ghost use Rattle.usb_device.specs.Calls.{EpCall};
 ghost use Rattle.usb_device.specs.Addresses.{Addressed, Tells};
 ghost use Rattle.usb_device.specs.Bus.{Bus, Goes};
 ghost use Rattle.usb_device.specs.Bus1.{KeptOrReset, blank, room_of};
 ghost use Rattle.usb_device.specs.Requests.{Lent};
 ghost use Rattle.usb_device.specs.Served.{Looks};
+ghost use Rattle.usb_device.specs.Pauses.{AreMet, ServesReports, pause_of};
 ghost use Rattle.usb_device.specs.Events.{Event, SuspendCame, ResumeCame, WakeAsked};
 ghost use Rattle.usb_device.specs.States.{wakes_by};
 ghost use Rattle.usb_device.specs.Through.{calls_of};
@@ -141,7 +142,8 @@ impl<'a, E: Endpoints, B: Buffers> UsbDevice<'a, E, B> {
     /// Takes what the controller has met, and fills its buffers.
     ///
     /// What a host saw the end of is confirmed by the device behind (`theorems::confirmed_on_the_bus`), and the host takes as new
-    /// the reports of the device behind, each whole, in their order (`theorems::reports_are_got_in_order`). Nothing is withheld.
+    /// the reports of the device behind, each whole, in their order (`theorems::reports_are_got_in_order`). It is
+    /// asked again in each call for what it put off, and a report that waits is handed over, except in a pause.
     pub fn serve<C: Controller>(&mut self, controller: &mut C)
         ensures runs { (calls : List EpCall) (lent : Lent) (past : List Event)
             → Runs E.refines self.old.control (C.bus controller.old) calls lent past self.old.device.layer self.old.device.behind self.old.device.reports (B.bus self.old.device.buffers)
@@ -152,6 +154,13 @@ impl<'a, E: Endpoints, B: Buffers> UsbDevice<'a, E, B> {
             × Addressed (is_done self.new.control) self.new.device.layer.due (C.bus controller.new).met.reset calls later (C.address_of controller.old) (C.address_of controller.new)
             × KeptOrReset calls later
             × Looks self.new.control (C.bus controller.old) (C.bus controller.new) calls later }
+        ensures goes_on { (lent : Lent) (past : List Event)
+            → Layered E.refines lent past self.old.device.layer self.old.device.behind self.old.device.reports (B.bus self.old.device.buffers)
+            → (since : List Event)
+            × Layered E.refines lent (since ++ past) self.new.device.layer self.new.device.behind self.new.device.reports (B.bus self.new.device.buffers)
+            × AreMet since × (self.new.device.reports.left ≤ pause_of self.old.device.reports.left since)
+            × ServesReports (may_send (is_ready self.new.device.layer.endpoint) self.new.device.reports.left) (B.bus self.new.device.buffers) since }
+        ensures released { is_done self.new.control ≡ true → self.new.device.reports.left ≡ 0 }
         ensures kept { (from : E) → E.keeps from self.old.device.behind → E.keeps from self.new.device.behind }
     {
         self.control.serve(&mut self.device, controller);
@@ -214,6 +223,8 @@ impl<'a, E: Endpoints, B: Buffers> UsbDevice<'a, E, B> {
             → Layered E.refines lent past self.old.device.layer self.old.device.behind self.old.device.reports (B.bus self.old.device.buffers)
             → Layered E.refines lent past self.new.device.layer self.new.device.behind self.new.device.reports (B.bus self.new.device.buffers) }
         ensures known { is_done self.old.control ≡ false → self.new ≡ self.old }
+        ensures waits { self.new.device.reports.left ≤ self.old.device.reports.left }
+        ensures released { is_done self.new.control ≡ true → self.new.device.reports.left ≡ 0 }
         ensures same { self.new.control ≡ self.old.control }
         ensures behind { self.new.device.behind ≡ self.old.device.behind }
     {

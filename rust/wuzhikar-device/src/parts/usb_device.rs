@@ -14,8 +14,8 @@
 //! their order: once, and at least once where endpoint 1 begins anew, whatever data toggle
 //! the host then wants. A report that waits where the protocol is set is given up: each is of the protocol in which its first
 //! packet was handed over. The controller is told of each change of endpoint 1 before the host. `UsbDevice::serve`
-//! looks at what came, and asks again for what was put off. That a read goes on, that nothing else is stalled, that a report is
-//! handed over, and that endpoint 1 waits at most 50 scans, is only tested.
+//! looks at what came, asks again for what was put off, and hands over a report that waits, except in a pause of at most 50 scans,
+//! which only an empty packet begins. That a read goes on, and that nothing else is stalled, is only tested.
 //!
 //! The controller is told its address once the host has acknowledged the status packet of SET_ADDRESS and no later SETUP packet
 //! came, and at no other time.

@@ -114,7 +114,8 @@ impl<'a, E: Endpoints, B: Buffers> UsbDevice<'a, E, B> {
     /// Takes what the controller has met, and fills its buffers.
     ///
     /// What a host saw the end of is confirmed by the device behind, and the host takes as new
-    /// the reports of the device behind, each whole, in their order. Nothing is withheld.
+    /// the reports of the device behind, each whole, in their order. It is
+    /// asked again in each call for what it put off, and a report that waits is handed over, except in a pause.
     pub fn serve<C: Controller>(&mut self, controller: &mut C) {
         self.control.serve(&mut self.device, controller);
         self.settle();

@@ -1,17 +1,21 @@
-use Rattle.std.proofs.Common.{ℕ, sym, subst, ◌∙◌}
+use Rattle.std.proofs.Common.{◌≤◌, ℕ, [], ◌++◌, List, append_assoc, sym, subst, ◌∙◌}
+use Rattle.std.proofs.Math.Nat.{le_refl, le_trans}
 use Rattle.usb_device.specs.Bus1.{room_of}
 use Rattle.usb_device.specs.Through.{calls_of}
 use Rattle.usb_device.specs.Transfers.{TransferState, NothingWithheld0, is_done}
 use Rattle.usb_device.specs.declared.answer.Endpoint1.{Endpoint1}
 use Rattle.usb_device.specs.representation.Link.{Link}
 use Rattle.usb_device.specs.representation.Link1.{NothingWithheld, may_send}
-use Rattle.usb_device.specs.representation.Layered.{is_ready}
+use Rattle.usb_device.specs.representation.Layered.{Layered, is_ready}
 use Rattle.usb_device.proofs.Layering.{polled_once}
 use Rattle.usb_device.proofs.Linked.{goes}
 use Rattle.usb_device.proofs.Resting.{rest_goes}
+use Rattle.usb_device.specs.Events.{Event}
 use Rattle.usb_device.specs.Served.{AsksNow, handed_on}
+use Rattle.usb_device.specs.Pauses.{pause_of, ServesReports}
 use Rattle.usb_device.proofs.Addressing.{addressed}
 use Rattle.usb_device.proofs.Looking.{grows_then, grows_goes}
+use Rattle.usb_device.proofs.Pausing.{polls_pause, polls_met, serves_more}
 use Rattle.usb_device.proofs.usb_device.UsbDevice.serve.Goals as goal
 
 pub returns-clause-runs : goal.returns-clause-runs
@@ -50,6 +54,29 @@ returns-clause-runs g c = λ calls lent past h.
 
 pub returns-clause-kept : goal.returns-clause-kept
 returns-clause-kept g c = λ from k.
-    let served = c.serve.ensures.kept (record c.args.self.now.device { behind = from }) k in
+    let served = (c.serve.ensures.kept c.args.self.now.device (λ base x. x, λ lent past h. ([], h, tt, le_refl c.args.self.now.device.reports.left))).0 from k in
     let settled = subst (λ x. g.E.Endpoints.keeps from x) (sym c.settle.ensures.behind) served in
     c.serve_reports.ensures.kept from settled
+
+pub returns-clause-goes_on : goal.returns-clause-goes_on
+returns-clause-goes_on g c = λ lent past h.
+    let left = c.args.self.now.device.reports.left in
+    let y = (c.serve.ensures.kept c.args.self.now.device (λ base x. x, λ lent past h. ([], h, tt, le_refl left))).1 lent past h in
+    let a = c.serve_reports.ensures.asked lent (y.0 ++ past) (c.settle.ensures.refines lent (y.0 ++ past) y.1) in
+    let d = c.serve_reports.new.self in
+    let b = g.B.Buffers.bus d.buffers in
+    let since = a.0 ++ y.0 in
+    let A : List Event → Type 0 = λ x. Layered g.E.Endpoints.refines lent x d.layer d.behind d.reports b in
+    let M : ℕ → Type 0 = λ x. x ≤ pause_of left since in
+    let N : ℕ → Type 0 = λ x. c.settle.new.self.device.reports.left ≤ x in
+    let E : Endpoint1 → Type 0 = λ x. ServesReports (may_send (is_ready x) c.settle.new.self.device.reports.left) b since in
+    let L : ℕ → Type 0 = λ x. ServesReports (may_send (is_ready d.layer.endpoint) x) b since in (
+      since,
+      subst A (sym (append_assoc a.0 y.0 past)) a.1,
+      polls_met a.0 y.0 a.2 y.2,
+      subst M (sym c.serve_reports.ensures.waits) (subst N (sym (polls_pause left a.0 y.0 a.2)) (le_trans c.settle.ensures.waits y.3)),
+      subst L (sym c.serve_reports.ensures.waits) (subst E (sym c.serve_reports.ensures.same) (serves_more _ b a.0 y.0 a.3)),
+    )
+
+pub returns-clause-released : goal.returns-clause-released
+returns-clause-released g c = λ d. c.serve_reports.ensures.waits ∙ c.settle.ensures.released d
