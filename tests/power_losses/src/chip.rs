@@ -20,11 +20,26 @@ pub struct Cells {
 /// Cells that read the same each time, in a flash whose erase only sets bits.
 pub const STEADY: Cells = Cells { waver: false, program_first: false };
 
+/// Cells of both kinds.
+pub const WAVERING: Cells = Cells { waver: true, program_first: true };
+
+/// Which units may be written again that are not erased.
+#[derive(Clone, Copy, Debug, PartialEq, Eq)]
+pub enum Again {
+    Never,
+    /// With the same bits as before, or with zeros.
+    SameBits,
+    /// With any bits.
+    #[cfg(test)]
+    Any,
+}
+
 /// Write units of `WRITE` bytes, each with the cells of its check if the flash has error correction; erase units of `ERASE` bytes;
-/// reads of `READ`. Each write unit is written once between two erases.
+/// reads of `READ`. Each write unit is written once between two erases, if the chip takes it not again.
 #[derive(Debug)]
 pub struct Chip<const READ: usize, const WRITE: usize, const ERASE: usize> {
     cells: Cells,
+    again: Again,
     code: Option<Code>,
     units: Vec<Unit<WRITE>>,
     power: Power,
@@ -38,10 +53,22 @@ struct Unit<const WRITE: usize> {
     doubt: [u8; WRITE],
     check: u16,
     check_doubt: u16,
+    /// What was written last since a whole erase, torn or not.
+    written: Option<[u8; WRITE]>,
 }
 
 impl<const WRITE: usize> Unit<WRITE> {
-    const ERASED: Self = Unit { data: [0xFF; WRITE], doubt: [0; WRITE], check: u16::MAX, check_doubt: 0 };
+    const ERASED: Self = Unit { data: [0xFF; WRITE], doubt: [0; WRITE], check: u16::MAX, check_doubt: 0, written: None };
+
+    fn is_erased(&self, check: u16) -> bool {
+        let data = self.data.iter().zip(self.doubt).all(|(byte, doubt)| byte | doubt == 0xFF);
+        data && self.check | self.check_doubt == check
+    }
+
+    /// Whether a chip that takes the same bits again takes these.
+    fn takes_again(&self, bytes: &[u8]) -> bool {
+        self.written.is_none_or(|written| written == bytes) || bytes.iter().all(|&byte| byte == 0)
+    }
 }
 
 /// Which cells of a unit change, and those of its check.
@@ -50,14 +77,21 @@ type Mask<const WRITE: usize> = ([u8; WRITE], u16);
 impl<const READ: usize, const WRITE: usize, const ERASE: usize> Chip<READ, WRITE, ERASE> {
     /// An erased flash without error correction.
     pub fn plain(capacity: usize, cells: Cells, power: Power, seed: u64) -> Self {
-        Chip { cells, code: None, units: vec![Unit::ERASED; capacity / WRITE], power, random: Random::of(seed) }
+        let units = vec![Unit::ERASED; capacity / WRITE];
+        Chip { cells, again: Again::Never, code: None, units, power, random: Random::of(seed) }
+    }
+
+    /// The same, which takes writes again.
+    pub fn again(self, again: Again) -> Self {
+        Chip { again, ..self }
     }
 
     /// An erased flash with error correction over each write unit.
     pub fn corrected(capacity: usize, cells: Cells, power: Power, seed: u64) -> Self {
         let code = Code::of(WRITE);
         let erased = Unit { check: code.erased(), ..Unit::ERASED };
-        Chip { cells, units: vec![erased; capacity / WRITE], code: Some(code), power, random: Random::of(seed) }
+        let units = vec![erased; capacity / WRITE];
+        Chip { cells, again: Again::Never, units, code: Some(code), power, random: Random::of(seed) }
     }
 
     /// Turns some cells of the first eight bytes of a unit.
@@ -68,7 +102,7 @@ impl<const READ: usize, const WRITE: usize, const ERASE: usize> Chip<READ, WRITE
 
     /// A unit as it is read now, and whether a bit was corrected in it.
     pub fn unit(&mut self, unit: usize) -> Result<([u8; WRITE], bool), ChipError> {
-        let Unit { mut data, doubt, mut check, check_doubt } = self.units[unit];
+        let Unit { mut data, doubt, mut check, check_doubt, .. } = self.units[unit];
         if self.cells.waver {
             let random = &mut self.random;
             data.iter_mut()
@@ -234,23 +268,28 @@ impl<const READ: usize, const WRITE: usize, const ERASE: usize> FlashDriver for 
             return self.misuse("a write of more than a unit");
         }
         let erased = self.code.as_ref().map_or(u16::MAX, Code::erased);
-        let is_erased = |of: &Unit<WRITE>| {
-            let data = of.data.iter().zip(of.doubt).all(|(byte, doubt)| byte | doubt == 0xFF);
-            data && of.check | of.check_doubt == erased
+        let parts: Vec<&[u8]> = bytes.chunks(WRITE).collect();
+        let again = self.again;
+        let takes = |(unit, part): (&Unit<WRITE>, &&[u8])| match again {
+            Again::Never => unit.is_erased(erased),
+            Again::SameBits => unit.takes_again(part),
+            #[cfg(test)]
+            Again::Any => true,
         };
-        if !self.units[range.clone()].iter().all(is_erased) {
+        if !self.units[range.clone()].iter().zip(&parts).all(takes) {
             return self.misuse("a write of a unit that is not erased");
         }
         let fate = self.power.next(Operation::Write, &mut self.random);
         let whole = self.whole(fate, range.len())?;
-        let parts: Vec<&[u8]> = bytes.chunks(WRITE).collect();
         for (unit, part) in range.clone().zip(&parts[..whole]) {
+            self.units[unit].written = Some(std::array::from_fn(|at| part[at]));
             self.clear(unit, part, None);
         }
         if fate == Fate::Whole {
             return Ok(());
         }
         let mask = self.torn();
+        self.units[range.start + whole].written = Some(std::array::from_fn(|at| parts[whole][at]));
         self.clear(range.start + whole, parts[whole], Some(mask));
         self.unmade()
     }
@@ -270,5 +309,9 @@ impl<const READ: usize, const WRITE: usize, const ERASE: usize> FlashDriver for 
             self.tear_erase(unit, in_first);
         }
         self.unmade()
+    }
+
+    fn give_up(&mut self) {
+        self.power.give_up();
     }
 }

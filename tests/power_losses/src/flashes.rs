@@ -5,9 +5,10 @@ use std::sync::atomic::{AtomicUsize, Ordering};
 use std::sync::{Mutex, PoisonError};
 use std::thread;
 
-use wuzhikar_log::{NorFlash, PairedFlash, SlotFlash, UnitFlash};
+use wuzhikar_log::{MarkedUnits, MountError, NorFlash, PairedFlash, SlotFlash, SteadyFlash, UnitFlash, Unmounted};
 
-use crate::chip::{Cells, Chip, STEADY};
+use crate::chip::{Again, Cells, Chip, STEADY, WAVERING};
+use crate::doubtful::Doubtful;
 use crate::power::Power;
 use crate::runner::{Broken, Tally, life};
 use crate::subjects::Subject;
@@ -20,11 +21,18 @@ pub trait Adapter: NorFlash + Sized {
     /// The chip.
     type Chip;
 
+    /// One of so many operations is torn though the power stays on, or none.
+    const FAULTS: [Option<usize>; 3] = [None, Some(32), Some(1000)];
+
+    /// Below one of these is the number of operations before a loss of power: most come soon, some so late that a compaction comes to
+    /// its end.
+    const SOON: [usize; 4] = [4, 30, 200, 800];
+
     /// An erased chip that has room for `pages` pages.
     fn blank(pages: usize, cells: Cells, power: Power, seed: u64) -> Self::Chip;
 
-    /// The adapter over a chip that a loss of power has stopped.
-    fn start(chip: Self::Chip, pages: usize) -> Self;
+    /// The adapter over a chip that a loss of power has stopped; the chip and the reason, where the start did not come to its end.
+    fn start(chip: Self::Chip, pages: usize) -> Result<Self, (Self::Chip, MountError)>;
 
     /// The chip as it is.
     fn stop(self) -> Self::Chip;
@@ -32,6 +40,9 @@ pub trait Adapter: NorFlash + Sized {
 
 /// Slots on a flash without error correction.
 pub type Plain<const READ: usize, const WRITE: usize, const ERASE: usize> = SlotFlash<Chip<READ, WRITE, ERASE>>;
+
+/// Slots on a flash without error correction whose cells waver.
+pub type Steady<const READ: usize, const WRITE: usize, const ERASE: usize> = SteadyFlash<MarkedUnits<Chip<READ, WRITE, ERASE>>>;
 
 /// Pairs of units on a flash with error correction.
 pub type Paired<const WRITE: usize, const ERASE: usize> = PairedFlash<UnitFlash<Chip<1, WRITE, ERASE>>>;
@@ -44,12 +55,33 @@ impl<const READ: usize, const WRITE: usize, const ERASE: usize> Adapter for Plai
         Chip::plain(BEFORE * ERASE + pages * page as usize, cells, power, seed)
     }
 
-    fn start(chip: Self::Chip, pages: usize) -> Self {
-        SlotFlash::new(chip, (BEFORE * ERASE) as u32, pages).expect("a geometry that serves")
+    fn start(chip: Self::Chip, pages: usize) -> Result<Self, (Self::Chip, MountError)> {
+        Ok(SlotFlash::new(chip, (BEFORE * ERASE) as u32, pages).expect("a geometry that serves"))
     }
 
     fn stop(self) -> Self::Chip {
         self.into_driver()
+    }
+}
+
+impl<const READ: usize, const WRITE: usize, const ERASE: usize> Adapter for Steady<READ, WRITE, ERASE> {
+    type Chip = Chip<READ, WRITE, ERASE>;
+
+    /// With the last one many operations fail 8 times in a row.
+    const FAULTS: [Option<usize>; 3] = [None, Some(32), Some(2)];
+
+    fn blank(pages: usize, cells: Cells, power: Power, seed: u64) -> Self::Chip {
+        let bytes = MarkedUnits::<Self::Chip>::bytes(pages).expect("a geometry that serves");
+        Chip::plain(BEFORE * ERASE + bytes as usize, cells, power, seed).again(Again::SameBits)
+    }
+
+    fn start(chip: Self::Chip, pages: usize) -> Result<Self, (Self::Chip, MountError)> {
+        let units = MarkedUnits::new(chip, (BEFORE * ERASE) as u32, pages).expect("a geometry that serves");
+        SteadyFlash::take_over(units).map_err(|Unmounted { flash, why }| (flash.into_driver(), why))
+    }
+
+    fn stop(self) -> Self::Chip {
+        self.into_flash().into_driver()
     }
 }
 
@@ -61,9 +93,9 @@ impl<const WRITE: usize, const ERASE: usize> Adapter for Paired<WRITE, ERASE> {
         Chip::corrected(BEFORE * ERASE + pages * page as usize, cells, power, seed)
     }
 
-    fn start(chip: Self::Chip, pages: usize) -> Self {
+    fn start(chip: Self::Chip, pages: usize) -> Result<Self, (Self::Chip, MountError)> {
         let units = UnitFlash::new(chip, (BEFORE * ERASE) as u32, pages).expect("a geometry that serves");
-        PairedFlash::mount(units)
+        Ok(PairedFlash::mount(units))
     }
 
     fn stop(self) -> Self::Chip {
@@ -82,9 +114,22 @@ fn steady<S: Subject, A: Adapter>(seed: u64, cuts: u64) -> Result<Tally, Broken>
     life::<S, A>(seed, cuts, STEADY)
 }
 
-/// Flashes of a read, a write and an erase unit without error correction, then those of a write and an erase unit with it.
+/// A life on a flash whose cells waver.
+fn wavering<S: Subject, A: Adapter>(seed: u64, cuts: u64) -> Result<Tally, Broken> {
+    life::<S, A>(seed, cuts, WAVERING)
+}
+
+/// A life on a flash whose cells waver, or whose erase programs first, or both.
+fn doubtful<S: Subject>(seed: u64, cuts: u64) -> Result<Tally, Broken> {
+    let cells = [WAVERING, WAVERING, Cells { program_first: false, ..WAVERING }, Cells { waver: false, ..WAVERING }];
+    life::<S, SteadyFlash<Doubtful>>(seed, cuts, cells[seed as usize % cells.len()])
+}
+
+/// Flashes of a read, a write and an erase unit without error correction, then those of a write and an erase unit with it, and such
+/// as waver.
 macro_rules! flashes {
-    ($($read:literal $write:literal $erase:literal;)* corrected: $($units:literal $page:literal;)*) => {
+    ($($read:literal $write:literal $erase:literal;)* corrected: $($units:literal $page:literal;)*
+        waver: $($a:literal $b:literal $c:literal;)*) => {
         [
             $(Flash {
                 name: concat!("write unit ", $write, ", erase unit ", $erase),
@@ -94,12 +139,16 @@ macro_rules! flashes {
                 name: concat!("write unit ", $units, " with error correction, erase unit ", $page),
                 life: steady::<S, Paired<$units, $page>>,
             },)*
+            $(Flash {
+                name: concat!("write unit ", $b, ", erase unit ", $c, ", cells that waver"),
+                life: wavering::<S, Steady<$a, $b, $c>>,
+            },)*
         ]
     };
 }
 
 /// All flashes that this subject is tried on.
-pub fn flashes<S: Subject>() -> [Flash; 15] {
+pub fn flashes<S: Subject>() -> [Flash; 18] {
     flashes! {
         1 1 4096;
         1 2 1024;
@@ -117,16 +166,34 @@ pub fn flashes<S: Subject>() -> [Flash; 15] {
         16 8192;
         32 8192;
         32 131072;
+        waver:
+        1 1 4096;
+        4 4 1024;
+        1 8 128;
     }
 }
 
 /// How many power losses one life has: as many lives as there are share the work.
 const A_LIFE: u64 = 500;
 
-/// At least `cuts` power losses over all flashes, as many on each, or the first thing that is broken, with its flash and seed.
-pub fn over_all<S: Subject>(cuts: u64) -> Result<Vec<Tally>, String> {
+/// How many power losses a short life has.
+const A_SHORT_LIFE: u64 = 12;
+
+/// At least `cuts` power losses over all flashes, as many on each; the report.
+pub fn over_all<S: Subject>(cuts: u64) -> Result<String, String> {
     let flashes = flashes::<S>();
     let lives = cuts.div_ceil(A_LIFE * flashes.len() as u64).max(1);
+    report::<S>(&flashes, &over(&flashes, lives, A_LIFE.min(cuts))?)
+}
+
+/// So many short lives on a flash in memory whose cells waver; the report.
+pub fn short_lives<S: Subject>(lives: u64) -> Result<String, String> {
+    let flashes = [Flash { name: "slots and marks in memory, cells that waver", life: doubtful::<S> }];
+    report::<S>(&flashes, &over(&flashes, lives, A_SHORT_LIFE)?)
+}
+
+/// So many lives on each flash of so many losses of power, or the first thing that is broken, with its flash and seed.
+fn over(flashes: &[Flash], lives: u64, cuts: u64) -> Result<Vec<Tally>, String> {
     let jobs = lives as usize * flashes.len();
     let next = AtomicUsize::new(0);
     let answers = Mutex::new(vec![None; jobs]);
@@ -136,7 +203,7 @@ pub fn over_all<S: Subject>(cuts: u64) -> Result<Vec<Tally>, String> {
                 loop {
                     let job = next.fetch_add(1, Ordering::Relaxed);
                     let Some(flash) = flashes.get(job / lives as usize) else { break };
-                    let answer = (flash.life)(job as u64, A_LIFE.min(cuts));
+                    let answer = (flash.life)(job as u64, cuts);
                     answers.lock().unwrap_or_else(PoisonError::into_inner)[job] = Some(answer);
                 }
             });
@@ -156,10 +223,9 @@ pub fn over_all<S: Subject>(cuts: u64) -> Result<Vec<Tally>, String> {
 }
 
 /// A line for each flash, and what came of all. Each kind of event has to have come.
-pub fn report<S: Subject>(tallies: &[Tally]) -> Result<String, String> {
+fn report<S: Subject>(flashes: &[Flash], tallies: &[Tally]) -> Result<String, String> {
     let mut lines = String::new();
     let mut all = Tally::default();
-    let flashes = flashes::<S>();
     for (flash, tally) in flashes.iter().zip(tallies) {
         lines += &format!("{} on {}: {tally}\n", S::NAME, flash.name);
         all.add(*tally);

@@ -48,6 +48,7 @@ struct State {
     off: Cell<bool>,
     faults: Cell<u64>,
     cut_erases: Cell<u64>,
+    given_up: Cell<u64>,
     misuse: Cell<Option<&'static str>>,
 }
 
@@ -77,6 +78,17 @@ impl Power {
     /// How many of the operations that the power was cut in were erases.
     pub fn cut_erases(&self) -> u64 {
         self.0.cut_erases.get()
+    }
+
+    /// Switches the power off between two operations: the chip is reset.
+    pub fn give_up(&self) {
+        self.0.off.set(true);
+        self.0.given_up.set(self.given_up() + 1);
+    }
+
+    /// How often the chip was reset.
+    pub fn given_up(&self) -> u64 {
+        self.0.given_up.get()
     }
 
     /// What a driver was asked that it should not have been, if anything.

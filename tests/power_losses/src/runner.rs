@@ -3,6 +3,8 @@
 
 use std::fmt;
 
+use wuzhikar_log::MountError;
+
 use crate::chip::Cells;
 use crate::flashes::Adapter;
 use crate::power::Power;
@@ -22,6 +24,11 @@ pub struct Tally {
     pub stored: u64,
     /// Changes that were refused because of a fault.
     pub failed: u64,
+    /// Losses of power, or faults, inside a start that did not come to its end.
+    pub cut_starts: u64,
+    /// Sessions that were given up, since the flash failed again and again; and lives that ended so, or had no marks left.
+    pub given_up: u64,
+    pub ended: u64,
 }
 
 impl Tally {
@@ -31,14 +38,18 @@ impl Tally {
         self.faults += other.faults;
         self.stored += other.stored;
         self.failed += other.failed;
+        self.cut_starts += other.cut_starts;
+        self.given_up += other.given_up;
+        self.ended += other.ended;
     }
 }
 
 impl fmt::Display for Tally {
     fn fmt(&self, f: &mut fmt::Formatter<'_>) -> fmt::Result {
-        let Tally { cuts, cut_erases, faults, stored, failed } = self;
-        write!(f, "{cuts} power losses, {cut_erases} of them in erases; {faults} faults; ")?;
-        write!(f, "{stored} changes stored, {failed} refused because of a fault")
+        let Tally { cuts, cut_erases, faults, stored, failed, cut_starts, given_up, ended } = self;
+        write!(f, "{cuts} power losses, {cut_erases} of them in erases, {cut_starts} in starts; {faults} faults; ")?;
+        write!(f, "{stored} changes stored, {failed} refused because of a fault")?;
+        write!(f, "; {given_up} sessions and {ended} lives given up")
     }
 }
 
@@ -76,19 +87,31 @@ pub struct Stage {
 /// A life with `cuts` losses of power, and a start behind the last one; or what it finds broken.
 pub fn life<S: Subject, A: Adapter>(seed: u64, cuts: u64, cells: Cells) -> Result<Tally, Broken> {
     let mut random = Random::of(seed);
-    let power = Power::with_faults([None, Some(32), Some(1000)][random.below(3)]);
+    let power = Power::with_faults(A::FAULTS[random.below(3)]);
     let pages = 2 + random.below(7);
     let mut chip = A::blank(pages, cells, power.clone(), random.next());
     let mut subject = S::new(&mut random);
     let mut stage = Stage { random, power, tally: Tally::default() };
     for _ in 0..=cuts {
-        // Most losses come soon, some so late that a compaction comes to its end.
-        let bound = [4, 30, 200, 800][stage.random.below(4)];
+        let bound = A::SOON[stage.random.below(4)];
         stage.power.on(stage.random.below(bound) as u64);
-        chip = subject.session(A::start(chip, pages), &mut stage)?.stop();
+        chip = match A::start(chip, pages) {
+            Ok(flash) => subject.session(flash, &mut stage)?.stop(),
+            Err((cut, _)) if stage.power.is_off() => {
+                stage.tally.cut_starts += 1;
+                cut
+            }
+            Err((_, MountError::OutOfMarks | MountError::Fault)) => {
+                stage.tally.ended += 1;
+                break;
+            }
+            Err((_, why)) => return Err(Broken::Lost(why.to_string())),
+        };
+        stage.tally.cuts += 1;
         if let Some(how) = stage.power.misuse() {
             return Err(Broken::Misuse(how));
         }
     }
-    Ok(Tally { cuts, cut_erases: stage.power.cut_erases(), faults: stage.power.faults(), ..stage.tally })
+    let Stage { power, tally, .. } = stage;
+    Ok(Tally { cut_erases: power.cut_erases(), faults: power.faults(), given_up: power.given_up(), ..tally })
 }

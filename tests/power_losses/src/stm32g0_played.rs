@@ -7,7 +7,7 @@ use settings::stm32g0::{
     BUSY, CORRECTED, Chip, DOUBLE, DOUBLE_WORD, ERRORS, FlashError, LOCK, PAGE, PAGE_ERASE, PAGE_NUMBER_AT, PROGRAM, Register,
     START, Stm32G0, on_nmi,
 };
-use wuzhikar_log::{FlashDriver, PairedFlash, UnitFlash};
+use wuzhikar_log::{FlashDriver, MountError, PairedFlash, UnitFlash};
 
 use crate::chip::{self, Cells, STEADY};
 use crate::flashes::Adapter;
@@ -174,12 +174,12 @@ impl Adapter for PairedFlash<UnitFlash<Driver>> {
         Stm32G0::new(Played::new(cells, power, seed))
     }
 
-    fn start(driver: Driver, pages: usize) -> Self {
+    fn start(driver: Driver, pages: usize) -> Result<Self, (Self::Chip, MountError)> {
         // The loss of power has reset all registers.
         let mut chip = driver.into_chip();
         (chip.control, chip.status, chip.ecc, chip.first) = (LOCK, 0, INTERRUPT, None);
         chip.busy.set(0);
-        PairedFlash::mount(UnitFlash::new(Stm32G0::new(chip), 8192, pages).expect("a geometry that serves"))
+        Ok(PairedFlash::mount(UnitFlash::new(Stm32G0::new(chip), 8192, pages).expect("a geometry that serves")))
     }
 
     fn stop(self) -> Driver {

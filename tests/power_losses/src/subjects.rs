@@ -3,11 +3,13 @@
 
 mod keyboard;
 mod log;
+mod pages;
 mod settings;
 mod settings_in_c;
 
 pub use keyboard::Keyboard;
 pub use log::Log;
+pub use pages::Pages;
 pub use settings::{InRust, Settings};
 pub use settings_in_c::InC;
 

@@ -2,6 +2,7 @@
 //! Adapters and units that are wrong in one point each, to see that lives find it.
 
 mod pages;
+mod steady;
 mod units;
 
 use crate::chip::STEADY;

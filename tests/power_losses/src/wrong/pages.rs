@@ -3,7 +3,7 @@
 
 use std::cell::RefCell;
 
-use wuzhikar_log::{FlashDriver, FlashFault, NorFlash, PAGE_SLOTS, SLOT_BYTES};
+use wuzhikar_log::{FlashDriver, FlashFault, MountError, NorFlash, PAGE_SLOTS, SLOT_BYTES};
 
 use super::{first_broken, loses};
 use crate::chip::{Cells, Chip};
@@ -45,8 +45,8 @@ impl<const HOW: u8, const WRITE: usize, const ERASE: usize> Adapter for Wrong<HO
         Chip::plain(pages * Self::WHOLE, cells, power, seed)
     }
 
-    fn start(chip: Self::Chip, pages: usize) -> Self {
-        Wrong { chip: RefCell::new(chip), pages, writes: 0 }
+    fn start(chip: Self::Chip, pages: usize) -> Result<Self, (Self::Chip, MountError)> {
+        Ok(Wrong { chip: RefCell::new(chip), pages, writes: 0 })
     }
 
     fn stop(self) -> Self::Chip {

@@ -2,7 +2,7 @@
 //! Units of a flash with error correction, below `PairedFlash`; and the adapter of a flash without it.
 
 use wuzhikar::Standard;
-use wuzhikar_log::{EccFlash, FlashFault, PAGE_UNITS, PairedFlash, SLOT_BYTES, SlotFlash, UnitFlash};
+use wuzhikar_log::{EccFlash, FlashFault, MountError, PAGE_UNITS, PairedFlash, SLOT_BYTES, SlotFlash, UnitFlash};
 
 use super::first_broken;
 use crate::chip::{Cells, Chip};
@@ -85,9 +85,9 @@ impl<const HOW: u8> Adapter for PairedFlash<Wrong<HOW>> {
         Paired::<8, 2048>::blank(pages, cells, power, seed)
     }
 
-    fn start(chip: Corrected, pages: usize) -> Self {
+    fn start(chip: Corrected, pages: usize) -> Result<Self, (Self::Chip, MountError)> {
         let units = UnitFlash::new(chip, 0, pages).expect("a geometry that serves");
-        PairedFlash::mount(Wrong { units, trusted: None })
+        Ok(PairedFlash::mount(Wrong { units, trusted: None }))
     }
 
     fn stop(self) -> Corrected {
@@ -123,8 +123,8 @@ impl Adapter for Slots {
         Paired::<8, 2048>::blank(pages, cells, power, seed)
     }
 
-    fn start(chip: Corrected, pages: usize) -> Self {
-        Slots(SlotFlash::new(chip, 0, pages).expect("a geometry that serves"))
+    fn start(chip: Corrected, pages: usize) -> Result<Self, (Self::Chip, MountError)> {
+        Ok(Slots(SlotFlash::new(chip, 0, pages).expect("a geometry that serves")))
     }
 
     fn stop(self) -> Corrected {
