@@ -1,7 +1,7 @@
 /* SPDX-License-Identifier: MIT OR Apache-2.0 */
-/* 2 MB of flash, of which the last 8 KB are the log's (src/flash.rs), and 256 KB of RAM. */
+/* 2 MB of flash, of which the last 24 KB are the log's (src/flash.rs), and 256 KB of RAM. */
 ENTRY(reset)
-MEMORY { FLASH : ORIGIN = 0x10000000, LENGTH = 2040K  RAM : ORIGIN = 0x20000000, LENGTH = 256K }
+MEMORY { FLASH : ORIGIN = 0x10000000, LENGTH = 2024K  RAM : ORIGIN = 0x20000000, LENGTH = 256K }
 SECTIONS {
   .boot : { KEEP(*(.boot)) } > FLASH
   ASSERT(SIZEOF(.boot) == 256, "the boot stage has 256 bytes")

@@ -211,6 +211,10 @@ impl Calls for Rom {
     fn word(&self, offset: u32) -> u32 {
         read(0x1300_0000 + offset as usize)
     }
+
+    fn reset(&self) {
+        stop()
+    }
 }
 
 /// From here on the USB interrupt comes, the only one that is enabled.

@@ -3,12 +3,13 @@
 //! calls lie in RAM, as does the USB interrupt, which goes on meanwhile.
 
 use core::convert::Infallible;
-use wuzhikar_log::{FlashDriver, SlotFlash};
+use wuzhikar_log::{FlashDriver, MarkedUnits, SteadyFlash};
 
-/// The bytes of the flash, and the log's pages at its end: `rp2040.ld` leaves them out.
+/// The bytes of the flash, and the log's pages at its end: `rp2040.ld` leaves them out. A serial flash may program to 0 before it
+/// erases, and cells of a torn operation waver: so there are a page more, and as many sectors of marks ([`MarkedUnits`]).
 pub const END: u32 = 2 * 1024 * 1024;
 pub const PAGES: usize = 2;
-pub const START: u32 = END - SECTOR * PAGES as u32;
+pub const START: u32 = END - 2 * SECTOR * (PAGES as u32 + 1);
 
 /// What is erased at once, and what is programmed at once.
 pub const SECTOR: u32 = 4096;
@@ -26,6 +27,8 @@ pub trait Calls {
     fn map(&self);
     /// A word of the mapped flash, past the cache.
     fn word(&self, offset: u32) -> u32;
+    /// Resets the chip.
+    fn reset(&self);
 }
 
 /// An operation, whose page lies in RAM. Nothing of the flash is touched until it is mapped again.
@@ -45,9 +48,9 @@ fn operate<C: Calls>(calls: &C, offset: u32, page: Option<&[u8; PAGE as usize]>)
 /// The driver.
 pub struct Flash<C>(pub C);
 
-/// The log's pages.
-pub fn pages<C: Calls>(calls: C) -> Option<SlotFlash<Flash<C>>> {
-    SlotFlash::new(Flash(calls), START, PAGES).ok()
+/// The log's pages, blank or as a start before left them. Anything else is left alone, and there are none.
+pub fn pages<C: Calls>(calls: C) -> Option<SteadyFlash<MarkedUnits<Flash<C>>>> {
+    SteadyFlash::take_over(MarkedUnits::new(Flash(calls), START, PAGES).ok()?).ok()
 }
 
 impl<C: Calls> FlashDriver for Flash<C> {
@@ -84,5 +87,9 @@ impl<C: Calls> FlashDriver for Flash<C> {
     fn erase(&mut self, from: u32, to: u32) -> Result<(), Infallible> {
         (from..to).step_by(SECTOR as usize).for_each(|at| operate(&self.0, at, None));
         Ok(())
+    }
+
+    fn give_up(&mut self) {
+        self.0.reset();
     }
 }

@@ -2,13 +2,13 @@
 
 use crate::board::{COLUMNS, Codes, LAMP, PRODUCT, Pads, ROWS, scan};
 use crate::boot::{STAGE, crc32};
-use crate::flash::{Calls, END, Flash, PAGE, SECTOR, START, pages};
+use crate::flash::{Calls, END, Flash, PAGE, PAGES, SECTOR, START, pages};
 use crate::rp2040_usb::played::{Played, Wired};
 use crate::rp2040_usb::{Rp2040, Rp2040Usb};
 use std::cell::{Cell, RefCell};
 use wuzhikar_device::Product;
-use wuzhikar_device::testing::{self, Firmware, UsbOf};
-use wuzhikar_log::{FlashDriver, SlotFlash, check_driver};
+use wuzhikar_device::testing::{self, Cells, Firmware, UsbOf};
+use wuzhikar_log::{FlashDriver, MarkedUnits, SteadyFlash, check_marks};
 
 /// How far the ROM's calls are.
 #[derive(Clone, Copy, Debug, PartialEq)]
@@ -63,6 +63,10 @@ impl Calls for &PlayedRom {
         self.goes(Stage::Flushed, Stage::Mapped);
     }
 
+    fn reset(&self) {
+        panic!("the flash never fails");
+    }
+
     fn word(&self, offset: u32) -> u32 {
         assert_eq!(self.1.get(), Stage::Mapped);
         u32::from_le_bytes(self.0.borrow()[(offset - START) as usize..][..4].try_into().unwrap())
@@ -81,7 +85,7 @@ fn the_checksum_is_that_of_the_rom() {
 #[test]
 fn the_flash_driver_has_no_fault() {
     let rom = PlayedRom::new();
-    check_driver(&mut pages(&rom).unwrap()).unwrap();
+    check_marks(&mut MarkedUnits::new(Flash(&rom), START, PAGES).unwrap()).unwrap();
 }
 
 #[test]
@@ -125,14 +129,17 @@ fn each_switch_is_seen_at_its_place() {
     }
 }
 
+type Steady = SteadyFlash<MarkedUnits<Flash<&'static PlayedRom>>>;
+
 /// What is shipped.
 struct Shipped;
 
 impl Firmware for Shipped {
     type Registers = Played;
     type Driver = Rp2040Usb<'static, &'static Wired>;
-    type Cells = PlayedRom;
-    type Flash = SlotFlash<Flash<&'static PlayedRom>>;
+    // (A start of a steady flash writes, so those that start beside one another share one.)
+    type Cells = RefCell<Steady>;
+    type Flash = Cells<Steady>;
     type Layout = Codes;
 
     fn product() -> &'static Product<'static> {
@@ -147,12 +154,12 @@ impl Firmware for Shipped {
         Rp2040Usb(Box::leak(Box::new(Rp2040::start(wire))))
     }
 
-    fn cells() -> PlayedRom {
-        PlayedRom::new()
+    fn cells() -> RefCell<Steady> {
+        RefCell::new(pages(&*Box::leak(Box::new(PlayedRom::new()))).unwrap())
     }
 
-    fn flash(cells: &'static PlayedRom) -> Self::Flash {
-        pages(cells).unwrap()
+    fn flash(cells: &'static RefCell<Steady>) -> Cells<Steady> {
+        Cells(cells)
     }
 
     fn round(driver: Self::Driver, device: &mut UsbOf<Self>) {

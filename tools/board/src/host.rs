@@ -65,6 +65,14 @@ fn out(chip: &mut Chip, packet: &[u8]) -> Answer<bool> {
 const GET_DEVICE: [u8; 8] = [0x80, 6, 0, 1, 0, 0, 18, 0];
 const SET_FEATURE: [u8; 8] = [0x21, 9, 3, 3, 0, 0, 6, 0];
 
+/// Reads string 2, the product's name (USB 2.0 section 9.6.7).
+pub fn name(chip: &mut Chip) -> Answer<()> {
+    match control(chip, [0x80, 6, 2, 3, 0x09, 0x04, 255, 0], &[])? {
+        Some(name) if name.len() > 8 && usize::from(name[0]) == name.len() => Ok(()),
+        name => Err(Lost::Dead(format!("WRONG: {name:02x?} in place of a name"))),
+    }
+}
+
 /// Whether a command was confirmed; if not it was refused.
 pub fn command(chip: &mut Chip, command: Command) -> Answer<bool> {
     match control(chip, SET_FEATURE, &command.packet())? {

@@ -83,6 +83,7 @@ pub fn run(shop: &Shop) -> Answer<()> {
         },
     )?;
     bench.row("address and configuration", &blank, nothing, host::enumerate)?;
+    bench.row("the product's name, read whole", &blank, nothing, host::name)?;
     bench.row("a command with room, on 384 records", &entries, nothing, command)?;
     bench.row("a compaction of 384 copies, the next page blank", &full, nothing, command)?;
     bench.row("a compaction of 384 copies, the next page used", &used, nothing, command)?;
