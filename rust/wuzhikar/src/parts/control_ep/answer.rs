@@ -77,7 +77,7 @@ pub enum Received {
     Answered(OutAnswer),
     /// An output report: the packet is acknowledged, and these are the LEDs.
     Leds(u8),
-    /// A feature report without its Report ID; the packet's answer is that of `ControlEp::judged`.
+    /// A feature report without its Report ID; the packet is answered by the verdict on it.
     Offer([u8; 5]),
 }
 
