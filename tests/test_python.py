@@ -4,10 +4,12 @@ reference/reader/plain.py over real and mutated descriptors. They need cargo, ru
 With `--inside` it runs in the environment, where the package is installed.
 """
 
+import copy
 import doctest
 import io
 import os
 import pathlib
+import pickle
 import subprocess
 import sys
 import tempfile
@@ -181,6 +183,45 @@ class Package(unittest.TestCase):
         for call in (*calls, lambda: reader.write({0x80001: (1 << 64) + 1})):
             with self.assertRaises(OverflowError):
                 call()
+
+        class Wide:
+            def __index__(self):
+                return (1 << 32) + 0x70004
+
+        with self.assertRaises(OverflowError):
+            self.hid.usage_name(Wide())
+
+    def test_an_error_outlives_a_process_and_a_reader_is_not_copied(self):
+        for error in (self.hid.DescriptorError("ShortItem", 3), self.hid.HidError("Closed"), self.hid.HidError("Twice", " (setting 1)")):
+            again = pickle.loads(pickle.dumps(error))
+            self.assertEqual((type(again), str(again), vars(again)), (type(error), str(error), vars(error)))
+        with self.hid.Reader(self.texts[0]) as reader:
+            for make in (copy.copy, copy.deepcopy, pickle.dumps):
+                self.assertRaises(TypeError, make, reader)
+            self.assertTrue(reader.collections)
+
+    def test_what_is_no_number_is_no_zero(self):
+        with self.reader_of("keyboard") as keyboard:
+            for value in ("", [], b"", 0.0):
+                self.assertRaises(TypeError, keyboard.write, [self.hid.Setting(value, usage=0x700E0)])
+
+    def test_a_stream_that_does_not_block_is_no_end(self):
+        ends = os.pipe()
+        os.set_blocking(ends[0], False)
+        with self.reader_of("mouse") as mouse, open(ends[0], "rb", buffering=0) as stream, open(ends[1], "wb", buffering=0) as into:
+            self.assertRaises(BlockingIOError, next, mouse.reports_of(stream))
+            into.write(bytes([4, 0xFD, 2, 1, 4]))
+            reports = mouse.reports_of(stream)
+            self.assertEqual(next(reports), bytes([4, 0xFD, 2, 1]))
+            self.assertRaises(BlockingIOError, next, reports)
+
+    def test_a_feature_report_is_bytes_of_a_length(self):
+        device = object.__new__(self.hid.Live)
+        device._file, device.reader = open(os.devnull, "r+b", buffering=0), self.hid.Reader(self.texts[0])
+        self.assertRaises(OverflowError, device.set_feature, bytes(1 << 14))
+        for call in (device.set_feature, device.send):
+            self.assertRaises(TypeError, call, 6)
+        device.close()
 
     def test_a_device_is_closed_once_and_refused_then(self):
         device = object.__new__(self.hid.Live)

@@ -6,8 +6,9 @@
  *
  * Objects. The memory is the caller's. It is zeros, as a static is, or what an earlier start left there; and it stays where it
  * is. Make it zeros where it outlives a reset of the chip: one that came inside of a call leaves it WZ_BUSY, also for a start.
- * No call but a start takes an object that was not started (WZ_NOT_STARTED); a copy of an object was not started. What a
- * start refuses was not started either. A start on an object that was started starts it over, as a loss of power does.
+ * No call but a start takes an object that was not started (WZ_NOT_STARTED); a copy of an object was not started. A format is
+ * a start. What a start refuses, for whatever reason, is not started, also where it was before. A start on an object that was
+ * started starts it over, as a loss of power does.
  *
  * Calls. No call waits, but for the functions that the firmware lends. One call at a time: none of an object may begin on
  * another thread or in an interrupt while one of this object runs, nor of two keyboards on two threads where one has a layout.
@@ -63,7 +64,7 @@ const char *wz_status_name(int status);
 
 /* What the library calls where a state comes that its proofs exclude. The firmware defines it, and resets the chip there, or
  * loops. It does not return. No input is known that leads there. */
-#ifdef __cplusplus
+#if defined(__cplusplus) && __cplusplus >= 201103L
 [[noreturn]]
 #elif defined(__GNUC__)
 __attribute__((noreturn))
@@ -94,7 +95,9 @@ void wz_panic(void);
 #define WZ_PAGE_SLOTS 512
 #define WZ_PAGE_BYTES 4096
 
-/* NOR flash of 2 to 8 pages of 512 slots of 8 bytes. A start copies the table.
+/* NOR flash of 2 to 8 pages of 512 slots of 8 bytes. A start copies the table. No two objects stand on the same pages, or each
+ * writes over what the other stored: give each a table over pages of its own. Erase the pages before the first start, and keep
+ * their number: on other bytes a page may be unsound, and then every command is refused (docs/firmware.md).
  *
  * The functions get this context, a page below pages, a slot of 0 to 511, and bytes that are aligned to 8. They return when
  * the flash is done, throw nothing, and may call all but the object that called them. What a chip must do is in docs/log.md,

@@ -2,6 +2,7 @@
 """The shared library, as c/reader/hid_reader.h declares it."""
 
 import ctypes
+import operator
 import os
 from ctypes import POINTER, byref, c_char_p, c_int8, c_int32, c_int64, c_size_t, c_uint8, c_uint16, c_uint32, c_uint64
 from typing import Any
@@ -102,8 +103,11 @@ class HidError(Exception):
     """A refusal of a call, by its name, as `ShortReport`."""
 
     def __init__(self, name: str, detail: str = "") -> None:
-        super().__init__(f"{name}{detail}")
+        super().__init__(name, detail)
         self.name = name
+
+    def __str__(self) -> str:
+        return "".join(self.args)
 
 
 class DescriptorError(HidError):
@@ -112,6 +116,9 @@ class DescriptorError(HidError):
     def __init__(self, name: str, offset: int) -> None:
         super().__init__(name, f" at byte {offset}")
         self.offset = offset
+
+    def __reduce__(self) -> tuple[type, tuple[str, int]]:
+        return type(self), (self.name, self.offset)
 
 
 def fault_name(number: int) -> str:
@@ -122,8 +129,8 @@ def status_of(name: str, *arguments: Any) -> str:
     """Makes a call: the name of its refusal, or an empty text."""
     for kind, given in zip(CALLS[name], arguments):
         # ctypes would cut off what is too large.
-        if isinstance(given, int) and kind(given).value != given:
-            raise OverflowError(f"{given} does not fit into a number of {8 * ctypes.sizeof(kind)} bits")
+        if hasattr(given, "__index__") and kind(number := operator.index(given)).value != number:
+            raise OverflowError(f"{number} does not fit into a number of {8 * ctypes.sizeof(kind)} bits")
     status = getattr(LIBRARY, f"hidr_{name}")(*arguments)
     return LIBRARY.hidr_status_name(status).decode() if status else ""
 

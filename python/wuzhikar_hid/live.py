@@ -8,12 +8,12 @@ from collections.abc import Iterator
 from types import TracebackType
 
 from wuzhikar_hid._library import HidError
-from wuzhikar_hid.reader import Kind, Reader
+from wuzhikar_hid.reader import Kind, Reader, as_bytes
 
 # <linux/hidraw.h>: HIDIOCGRDESCSIZE and HIDIOCGRDESC; then those of a length, HIDIOCSFEATURE and HIDIOCGFEATURE.
 _DESCRIPTOR_SIZE, _DESCRIPTOR = 0x80044801, 0x90044802
 _SET_FEATURE, _GET_FEATURE = 0xC0004806, 0xC0004807
-_LONGEST = 4096
+_LONGEST, _MOST = 4096, (1 << 14) - 1
 
 
 class Live:
@@ -37,7 +37,7 @@ class Live:
 
     def send(self, report: bytes) -> None:
         """Sends an output report, which begins with its ID, or with 0 where none is used."""
-        self._file.write(report if self.reader.uses_ids else b"\0" + report)
+        self._file.write(as_bytes(report) if self.reader.uses_ids else b"\0" + as_bytes(report))
 
     def feature(self, id: int = 0) -> bytes:
         """Gets a feature report."""
@@ -45,13 +45,18 @@ class Live:
         if length is None:
             raise HidError("UnknownReport")
         room = bytearray([id]) + bytes(length if not self.reader.uses_ids else length - 1)
-        count = fcntl.ioctl(self._file, _GET_FEATURE | len(room) << 16, room, True)
+        count = self._call(_GET_FEATURE, room)
         return bytes(room[:count] if self.reader.uses_ids else room[1:count])
 
     def set_feature(self, report: bytes) -> None:
-        """Sends a feature report."""
-        sent = bytearray(report if self.reader.uses_ids else b"\0" + report)
-        fcntl.ioctl(self._file, _SET_FEATURE | len(sent) << 16, sent, True)
+        """Sends a feature report, which begins with its ID where one is used."""
+        self._call(_SET_FEATURE, bytearray(as_bytes(report) if self.reader.uses_ids else b"\0" + as_bytes(report)))
+
+    def _call(self, request: int, report: bytearray) -> int:
+        """Makes a call of a length, which has 14 bits."""
+        if len(report) > _MOST:
+            raise OverflowError(f"a feature report of {len(report)} bytes: hidraw takes {_MOST}")
+        return fcntl.ioctl(self._file, request | len(report) << 16, report, True)
 
     def close(self) -> None:
         """Closes the device, and frees its descriptor."""

@@ -7,7 +7,7 @@ from ctypes import byref, c_int8, c_int64, c_size_t, c_uint8, c_uint32, c_uint64
 from dataclasses import dataclass
 from enum import IntEnum
 from fractions import Fraction
-from typing import BinaryIO
+from typing import BinaryIO, NoReturn
 
 from wuzhikar_hid import _library as library
 from wuzhikar_hid._library import DescriptorError, HidError
@@ -181,6 +181,9 @@ class Reader:
         if getattr(self, "_handle", 0):
             self.close()
 
+    def __reduce__(self) -> NoReturn:
+        raise TypeError("a Reader holds memory of the library, and can't be copied: make another one of the same text")
+
     def handle(self) -> int:
         """The handle of the library, for its calls. Refused: `Closed`."""
         if not self._handle:
@@ -284,9 +287,9 @@ class Reader:
         return bytes(into)[: length.value]
 
     def reports_of(self, stream: BinaryIO, kind: Kind = Kind.INPUT) -> Iterator[bytes]:
-        """The reports that follow each other in a file or a pipe: each is as long as its ID says. A last one that is cut off is refused
-        as `ShortReport`, an ID without a report as `UnknownReport`."""
-        while first := stream.read(1):
+        """The reports that follow each other in a file or a pipe that blocks: each is as long as its ID says. A last one that is cut off
+        is refused as `ShortReport`, an ID without a report as `UnknownReport`."""
+        while first := _whole(stream, 1):
             length = self.report_length(kind, first[0] if self.uses_ids else 0)
             if length is None:
                 raise HidError("UnknownReport")
@@ -299,7 +302,9 @@ class Reader:
 def _whole(stream: BinaryIO, count: int) -> bytes:
     """So many bytes, or those up to the stream's end."""
     found = b""
-    while len(found) < count and (more := stream.read(count - len(found))):
+    while len(found) < count and (more := stream.read(count - len(found))) != b"":
+        if more is None:
+            raise BlockingIOError("the stream has no byte now")
         found += more
     return found
 
@@ -314,8 +319,9 @@ def _asked(setting: Setting) -> library.Setting:
         raise ValueError("a setting names a usage or a field")
     by_field = setting.usage is None
     control = setting.field if by_field else setting.usage
-    made = library.Setting(setting.value or 0, control, setting.place, by_field, setting.value is None)
-    if (made.value, made.control, made.place) != (setting.value or 0, control, setting.place):
+    value = 0 if setting.value is None else setting.value
+    made = library.Setting(value, control, setting.place, by_field, setting.value is None)
+    if (made.value, made.control, made.place) != (value, control, setting.place):
         raise OverflowError(f"a number of {setting} is too large")
     return made
 

@@ -12,8 +12,8 @@ use crate::parts::flash_model::{FlashFault, SLOT_BYTES};
 /// - A whole erase makes each cell of its units firmly set. A torn one leaves them anything, also in doubt. A mark then reads as what
 ///   it held or as no word: no word comes from nowhere. No other unit changes.
 /// - A mark may be programmed again with the same bits: once in the ordinary course, and once more for each power loss or fault
-///   until its step is whole. So may a slot, for each fault. Some chips refuse that: look it up.
-///   [`check_marks`](crate::check_marks) tries it.
+///   until its step is whole. So may a slot, for each fault. A mark into which zeros were torn may be programmed with other bits.
+///   Some chips refuse a second program: look it up. [`check_marks`](crate::check_marks) tries it.
 pub trait MarkedFlash {
     /// Returns how many pages there are, 3 to 9: one more than the log gets.
     fn pages(&self) -> usize;
