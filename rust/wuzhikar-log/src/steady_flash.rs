@@ -30,7 +30,8 @@ const NO_SLOT: [u8; SLOT_BYTES] = [255, 255, 255, 127, 255, 255, 255, 255];
 /// A start finds each page as it was before the operation that a power loss came into, behind it, or torn as [`NorFlash`] says; from
 /// then on it reads the same each time. A start that is cut is made again. **Tested, not proved**, under these premises:
 ///
-/// - The flash does what [`MarkedFlash`] asks, and nothing else writes there.
+/// - The flash does what [`MarkedFlash`] asks, and nothing else writes there, a plain log neither. Its place, its units and the
+///   number of pages stay for ever: marks of another geometry are not told from these.
 /// - The power is not lost inside as many starts in a row as half the triples of a page: at least 4, mostly 12. A start that ends
 ///   begins the count anew.
 /// - No mark fails 8 times in a row, nor a page while it is made. Behind that [`MarkedFlash::give_up`] resets the chip, since nothing
@@ -144,7 +145,7 @@ impl<F: MarkedFlash> SteadyFlash<F> {
     /// Erases all pages, whatever they hold, and mounts the flash. **All that it holds is lost.**
     ///
     /// The power may be lost inside it, also again and again, where the flash mounts, or no mark of an earlier `SteadyFlash` stands
-    /// there: it is made again. On any other flash, a damaged one, no power loss may come before it answers `Ok`.
+    /// there: it is made again. On any other flash, a damaged or a worn one, no power loss may come before it answers `Ok`.
     ///
     /// # Errors
     ///
@@ -279,7 +280,7 @@ impl<F: MarkedFlash> SteadyFlash<F> {
                 }
             }
         }
-        why
+        if self.flash.is_unreadable() { MountError::Unreadable } else { why }
     }
 
     fn bump_where_begun(&mut self, page: usize) -> Result<(), Stop> {

@@ -1,6 +1,7 @@
 //! What starts and calls do, also where the power is lost inside them; and what is refused.
 
 use super::*;
+use std::cell::Cell;
 use std::vec;
 use std::vec::Vec;
 
@@ -22,6 +23,8 @@ struct Pages {
     bad_mark: Option<(usize, usize)>,
     bad_slot: Option<usize>,
     given_up: bool,
+    /// How many reads of marks succeed.
+    readable: Cell<u32>,
 }
 
 impl Pages {
@@ -35,6 +38,7 @@ impl Pages {
             bad_mark: None,
             bad_slot: None,
             given_up: false,
+            readable: Cell::new(u32::MAX),
         }
     }
 
@@ -90,6 +94,10 @@ impl MarkedFlash for Pages {
     }
 
     fn read_mark(&self, page: usize, mark: usize) -> Bytes {
+        if self.is_unreadable() {
+            return BLANK;
+        }
+        self.readable.set(self.readable.get() - 1);
         self.marks[page * 25 + mark]
     }
 
@@ -110,7 +118,7 @@ impl MarkedFlash for Pages {
     }
 
     fn is_unreadable(&self) -> bool {
-        false
+        self.readable.get() == 0
     }
 
     fn give_up(&mut self) {
@@ -154,6 +162,15 @@ fn what_is_no_steady_flash_is_named_and_left_as_it_is() {
     assert_eq!(why(SteadyFlash::mount(damaged.clone())), (MountError::Damaged, 0));
     assert_eq!(why(SteadyFlash::take_over(damaged.clone())), (MountError::Damaged, 0));
     assert!(image(&SteadyFlash::format(damaged).expect("formatted")).iter().all(|slot| *slot == BLANK));
+}
+
+#[test]
+fn a_read_that_fails_is_no_blank_flash() {
+    // 24 claims are read, and then 24 others that would tell a damaged flash.
+    for readable in 0..48 {
+        let flash = Pages { readable: Cell::new(readable), ..Pages::blank() };
+        assert_eq!(why(SteadyFlash::take_over(flash)), (MountError::Unreadable, 0), "{readable}");
+    }
 }
 
 #[test]
