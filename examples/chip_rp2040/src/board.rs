@@ -10,7 +10,7 @@ pub const COLUMNS: [u32; 12] = [4, 5, 6, 7, 8, 9, 10, 11, 12, 13, 14, 16];
 /// The pin of Caps Lock's lamp.
 pub const LAMP: u32 = 25;
 
-/// Which switch is which key. `NO_KEY` is a place without a switch.
+/// Which switch is which key. `Switches::<4, 12>::NO_KEY` is a place without a switch.
 pub const SWITCHES: Switches<4, 12> = Switches::new([
     [0, 1, 2, 3, 4, 5, 6, 7, 8, 9, 10, 11],
     [12, 13, 14, 15, 16, 17, 18, 19, 20, 21, 22, 23],
@@ -61,7 +61,7 @@ pub trait Pads {
     fn levels(&mut self) -> u32;
 }
 
-/// Which switches are closed: bit c of row r.
+/// Which switches are closed: bit c of row r, of at most 16 columns.
 pub fn scan(pads: &mut impl Pads) -> [u16; ROWS.len()] {
     ROWS.map(|row| {
         pads.pull_down(row, true);

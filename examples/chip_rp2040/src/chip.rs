@@ -29,10 +29,14 @@ const PADS: usize = 0x4001_c004;
 const SIO: usize = 0xd000_0000;
 const RESET_REQUEST: usize = 0xe000_ed0c;
 
-// Bits of RESETS: the pins and their pads, both PLLs, SYSINFO, and the timer.
+/// Clears the enables of interrupts.
+const NO_INTERRUPT: usize = 0xe000_e180;
+
+// Bits of RESETS: the pins and their pads, both PLLs, SYSINFO and the timer, and USB's controller.
 const PINS_RESET: u32 = 1 << 5 | 1 << 8;
 const PLLS_RESET: u32 = 1 << 12 | 1 << 13;
 const OTHERS_RESET: u32 = 1 << 19 | 1 << 21;
+const USB_RESET: u32 = 1 << 24;
 
 fn read(address: usize) -> u32 {
     // SAFETY: each caller names a register of 32 bits of the chip, or a word of the mapped flash.
@@ -55,9 +59,11 @@ fn release(bits: u32) {
 
 /// Starts the crystal of 12 MHz; then the processor has 125 MHz, USB 48 MHz, and the timer counts microseconds.
 pub fn start_clocks() {
-    // XOSC: 1 to 15 MHz; 1 ms to start.
+    // A reset of the processor leaves USB's controller on the bus, with its packets.
+    write(RESETS + SET, USB_RESET);
+    // XOSC: 1 to 15 MHz; 6 ms to start.
     write(XOSC, 0xaa0);
-    write(XOSC + 0xc, 47);
+    write(XOSC + 0xc, 282);
     write(XOSC + SET, 0xfab << 12);
     wait(XOSC + 0x4, 1 << 31);
     // clk_sys leaves the PLLs, if it ran by one, and clk_ref takes the crystal.
@@ -134,8 +140,9 @@ impl Pads for Pins {
     }
 
     fn levels(&mut self) -> u32 {
+        // By pull-ups of 50 to 80 kOhm.
         let begun = read(TIMER);
-        while read(TIMER).wrapping_sub(begun) < 5 {}
+        while read(TIMER).wrapping_sub(begun) < 30 {}
         read(SIO + 0x4)
     }
 }
@@ -223,8 +230,10 @@ pub fn take_interrupts() {
     unsafe { core::arch::asm!("cpsie i") }
 }
 
-/// Starts over: what a panic does.
+/// Starts over, off the bus: what a panic does.
 pub fn stop() -> ! {
+    write(NO_INTERRUPT, u32::MAX);
+    write(RESETS + SET, USB_RESET);
     write(RESET_REQUEST, 0x05fa_0004);
     loop {
         core::hint::spin_loop();

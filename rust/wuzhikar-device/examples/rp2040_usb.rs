@@ -4,7 +4,8 @@
 //! endpoint 1. Written by the manual of RP2040 (section 4.1). Not tried on a chip. The tests below play its registers.
 //!
 //! A SETUP packet or a reset leaves the buffers as they are. So the interrupt, [`interrupt`], takes them back at once, and
-//! `waiting` tells of it later. No loop can take the interrupt's place: it has some 3 µs, so keep it in RAM with what it calls.
+//! `waiting` tells of it later. No loop can take the interrupt's place: it has some 3 µs, so keep it in RAM with what it calls, and
+//! all that runs with the interrupts off: one read of flash past its cache takes 2 µs.
 //! The chip keeps no data toggles either: the driver does. The manual doesn't say what becomes of an OUT packet that comes again;
 //! here it is acknowledged and dropped (USB 2.0 section 8.6.4).
 //!
@@ -45,6 +46,8 @@ const NOTES: usize = 0xffc;
 const WAS_RESET: u32 = 1;
 /// The chip has an EP_ABORT that works.
 const ABORTS: u32 = 2;
+/// A packet takes less time than so many reads: a controller that has not ended it then has stopped.
+const READS: u32 = 4000;
 
 // The registers.
 const ADDRESS: usize = 0x1_0000;
@@ -115,7 +118,11 @@ fn take_back(registers: &impl Registers, notes: u32, bits: u32) {
     let aborts = notes & ABORTS != 0;
     if aborts {
         registers.write(ABORT, bits);
-        while registers.read(ABORT_DONE) & bits != bits {}
+        for _ in 0..READS {
+            if registers.read(ABORT_DONE) & bits == bits {
+                break;
+            }
+        }
     }
     for buffer in IN_0..=IN_1 {
         if bits >> buffer & 1 != 0 {
@@ -184,15 +191,23 @@ impl<R: Registers> Rp2040Usb<'_, R> {
         }
     }
 
-    /// Does this with the interrupts off, unless a reset or one of these has come that `waiting` did not tell. It is given the notes.
+    /// Does this with the interrupts off. It lies in RAM with what it does, which has to be a part of it.
+    #[cfg_attr(target_os = "none", unsafe(link_section = ".ram"))]
+    #[inline(never)]
+    fn alone(&self, does: impl FnOnce(&R)) {
+        self.0.registers.interrupts(false);
+        does(&self.0.registers);
+        self.0.registers.interrupts(true);
+    }
+
+    /// Does this alone, unless a reset or one of these has come that `waiting` did not tell. It is given the notes.
     fn unless(&self, overtaken: u32, does: impl FnOnce(&R, u32)) {
-        let registers = &self.0.registers;
-        registers.interrupts(false);
-        let notes = registers.read(NOTES);
-        if notes & WAS_RESET == 0 && registers.read(SIE_STATUS) & (BUS_RESET | overtaken) == 0 {
-            does(registers, notes);
-        }
-        registers.interrupts(true);
+        self.alone(|registers| {
+            let notes = registers.read(NOTES);
+            if notes & WAS_RESET == 0 && registers.read(SIE_STATUS) & (BUS_RESET | overtaken) == 0 {
+                does(registers, notes);
+            }
+        });
     }
 
     /// Puts a packet into a buffer, or what it answers else, unless that is overtaken. The interrupts are off twice, for a short
@@ -243,9 +258,7 @@ impl<R: Registers> Controller for Rp2040Usb<'_, R> {
         let registers = &self.0.registers;
         let mut met = Waiting { reset: false, setup: None, out: None, taken: false };
         // What came since the last interrupt, or while it was off.
-        registers.interrupts(false);
-        interrupt(registers);
-        registers.interrupts(true);
+        self.alone(interrupt);
         let came = registers.read(SIE_STATUS) & SETUP != 0;
         let was_reset = registers.read(NOTES) & WAS_RESET != 0;
         // Behind a SETUP packet or a reset the buffers are empty: what they are done with came before.
@@ -256,9 +269,7 @@ impl<R: Registers> Controller for Rp2040Usb<'_, R> {
         met.taken = self.take(IN_0);
         if was_reset {
             met = Waiting { reset: true, setup: None, out: None, taken: false };
-            registers.interrupts(false);
-            registers.write(NOTES, registers.read(NOTES) & !WAS_RESET);
-            registers.interrupts(true);
+            self.alone(|registers| registers.write(NOTES, registers.read(NOTES) & !WAS_RESET));
         }
         // Where another comes meanwhile it is read once more, and where a reset comes it is gone.
         while came && registers.read(SIE_STATUS) & SETUP != 0 {

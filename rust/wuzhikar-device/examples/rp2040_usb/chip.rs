@@ -74,11 +74,13 @@ impl Registers for Chip {
         unsafe { read_volatile(CHIP_ID) >> 28 }
     }
 
+    #[inline(always)]
     fn interrupts(&self, on: bool) {
         // SAFETY: the driver turns them on where they were on.
         unsafe { if on { asm!("cpsie i") } else { asm!("cpsid i") } }
     }
 
+    #[inline(always)]
     fn pause(&self) {
         for _ in 0..12 {
             // SAFETY: it does nothing.

@@ -47,6 +47,20 @@ fn what_the_packet_memory_held_is_gone_at_the_start() {
     assert!(!Rp2040Usb(&rp2040).waiting().reset);
 }
 
+#[test]
+fn a_controller_that_has_stopped_stops_no_interrupt() {
+    let wire = quiet(2);
+    let rp2040 = Rp2040::start(&wire);
+    Rp2040Usb(&rp2040).waiting();
+    Rp2040Usb(&rp2040).output_0(Output::Take);
+    wire.borrow_mut().registers.looks = Some(0);
+    wire.borrow_mut().registers.setup([0x80, 6, 0, 1, 0, 0, 18, 0]);
+    interrupts_run(&wire);
+    assert_eq!(wire.borrow().registers.word(CONTROL + 4 * OUT_0) & AVAILABLE, 0);
+    assert!(wire.borrow().registers.looks > Some(1000));
+    assert!(Rp2040Usb(&rp2040).waiting().setup.is_some());
+}
+
 /// Reports of two packets, and a keyboard that may wake its host.
 static PRODUCT: Product<'static> =
     Product::of(Identity { packet_size: PacketSize::Bytes16, remote_wakeup: true, ..Identity::TEST });

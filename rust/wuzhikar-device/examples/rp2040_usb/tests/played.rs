@@ -19,12 +19,14 @@ pub struct Played {
     is_changed: bool,
     /// The accesses since a SETUP packet came.
     since: usize,
+    /// How often the driver has looked whether a buffer is taken back, where that never ends.
+    pub(super) looks: Option<usize>,
 }
 
 impl Played {
     pub fn of(revision: u32) -> Played {
         let words = HashMap::from([(NOTES, WAS_RESET)]);
-        Played { revision, words, waited: 0, is_idle: false, woken: false, is_changed: false, since: 0 }
+        Played { revision, words, waited: 0, is_idle: false, woken: false, is_changed: false, since: 0, looks: None }
     }
 
     pub(super) fn at(&mut self, place: usize) -> &mut u32 {
@@ -179,10 +181,15 @@ impl Registers for &Wired {
     fn read(&self, place: usize) -> u32 {
         access(self);
         self.borrow_mut().registers.sees_tokens();
-        let played = &self.borrow().registers;
+        let played = &mut self.borrow_mut().registers;
         match place {
             RAW_INTERRUPTS => played.raw(),
             ASKED => played.asked(),
+            ABORT_DONE if played.looks.is_some() => {
+                played.looks = played.looks.map(|looks| looks + 1);
+                assert!(played.looks < Some(100_000), "the driver waits for ever");
+                0
+            }
             // Nothing is on the bus between two accesses.
             ABORT_DONE if played.revision >= 2 => played.word(ABORT),
             // The driver would wait for ever.
