@@ -2,7 +2,8 @@
 
 //! A `Controller` for the full-speed core DWC2 of Synopsys, to be copied: the OTG_FS of STM32 F4, F7 and L4, and the OTG of ESP32-S2
 //! and S3. Not tried on a chip: **registers and what they do are from memory** of the manual of STM32F4 and of free drivers. The
-//! tests below play them. FIFOs are written by the processor.
+//! tests below play them. FIFOs are written by the processor. The maker's start-up sets TRDT of GUSBCFG: 6 where the AHB has 32 MHz
+//! or more.
 //!
 //! The chip can't keep two clauses of the traits as they stand:
 //!
@@ -109,7 +110,7 @@ pub struct Dwc2<R> {
 }
 
 impl<R: Registers> Dwc2<R> {
-    /// Starts the core, which is powered, out of its reset, in device mode, and has its clock of 48 MHz.
+    /// Starts the core, which is powered, out of its reset, in device mode, and has its clock of 48 MHz and its TRDT.
     pub fn start(registers: R) -> Dwc2<R> {
         registers.write(CONTROL, OFF_BUS);
         registers.write(CONFIGURATION, FULL_SPEED);
@@ -120,6 +121,7 @@ impl<R: Registers> Dwc2<R> {
         registers.write(STATUS, u32::MAX);
         registers.write(MASK, RESET);
         registers.write(AHB, 1);
+        registers.write(OUT_0 + SIZE, SETUPS);
         registers.write(CONTROL, 0);
         Dwc2 { registers, setup: Cell::new(None), out: Cell::new(None), address: Cell::new(None) }
     }
@@ -351,6 +353,7 @@ impl<R: Registers> Buffers for Dwc2Usb<'_, R> {
         });
         self.control(IN[0], BYTES_8 | SET_NAK);
         self.control(OUT_0, SET_NAK);
+        self.registers().write(OUT_0 + SIZE, SETUPS);
         self.registers().write(IN[1], OF_1 | DATA0 | SET_NAK);
     }
 

@@ -92,8 +92,11 @@ impl Played {
 }
 
 impl Wire for Played {
-    /// It is always taken. Both directions are NAKed from then on, and not stalled.
+    /// It is taken where SIZE has room for one. Both directions are NAKed from then on, and not stalled.
     fn setup(&mut self, packet: [u8; 8]) -> bool {
+        if self.size & SETUPS == 0 {
+            return false;
+        }
         self.comes(SETUP_DATA, &packet);
         self.comes(4, &[]);
         self.ends[0].control = self.ends[0].control & !STALL | NAKS;
@@ -144,9 +147,10 @@ impl Wire for Played {
         }
     }
 
-    /// Endpoint 1 is off; all else the driver does.
+    /// Endpoint 1 is off, and SIZE is 0; all else the driver does.
     fn reset(&mut self) {
         self.resume();
+        self.size = 0;
         self.ends[1].control &= !(ACTIVE | ENABLE);
         self.status |= RESET | WAS_RESET;
     }
@@ -305,6 +309,14 @@ impl Firmware for Plain {
     fn round(driver: Self::Driver, device: &mut UsbOf<Self>) {
         driver.serve(device);
     }
+}
+
+#[test]
+fn a_setup_packet_is_taken_from_the_start_on() {
+    let wire = RefCell::new(testing::OnWire::quiet(Played::default()));
+    let dwc2 = Dwc2::start(&wire);
+    assert!(wire.borrow_mut().registers.setup([0; 8]));
+    assert_eq!(Dwc2Usb(&dwc2).waiting().setup, Some([0; 8]));
 }
 
 #[test]
