@@ -48,7 +48,8 @@ fn operate<C: Calls>(calls: &C, offset: u32, page: Option<&[u8; PAGE as usize]>)
 /// The driver.
 pub struct Flash<C>(pub C);
 
-/// The log's pages, blank or as a start before left them. Anything else is left alone, and there are none.
+/// The log's pages, blank or as a start before left them. Other data are taken for those of a plain log; of a damaged flash there
+/// are none.
 pub fn pages<C: Calls>(calls: C) -> Option<SteadyFlash<MarkedUnits<Flash<C>>>> {
     SteadyFlash::take_over(MarkedUnits::new(Flash(calls), START, PAGES).ok()?).ok()
 }
