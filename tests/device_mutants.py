@@ -66,7 +66,7 @@ class Worker(threading.Thread):
         """Runs the tests of the crate, or of a driver: the status, None where they hang, and what was printed. The time of the clock
         says nothing of that, since it is that of the whole machine."""
         # Behind `ulimit` each program that is started has so many seconds of the processor for itself.
-        part = ["--example", driver] if driver else ["--lib"]
+        part = ["--example", "drivers", driver] if driver else ["--lib"]
         command = ["sh", "-c", f'ulimit -t {SECONDS} && exec "$@"', "-", "cargo", "test", "-q", "-p", "wuzhikar-device", *part]
         made = subprocess.run(command, cwd=self.rust, env=self.environment, text=True, stdout=subprocess.PIPE, stderr=subprocess.STDOUT)
         hangs = re.search(r"SIGXCPU|signal: (9|24)\b", made.stdout)
