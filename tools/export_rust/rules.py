@@ -77,7 +77,6 @@ KEYBOARD = Rules(
     name="wuzhikar",
     crates=("layers", "keymap_store", "debounce", "reports", "key_reports", "descriptor_build", "control_ep", "keyboard"),
     below=(LOG,),
-    conditions={("reports", "plain"): LEFT_OUT},
     owed={("keyboard", "KeyboardOf::work"): "**Needs** the flash that the keyboard last started or restarted on, as the keyboard left it. "
                                 "Nothing checks it: [`FlashKeyboard`](crate::FlashKeyboard) holds both."},
     hidden=frozenset({("keyboard", "KeyboardOf::start"), ("keyboard", "KeyboardOf::start_in"), ("control_ep", "ControlEp::received"),

@@ -19,7 +19,7 @@ PAIRS = {"(": ")", "[": "]", "{": "}"}
 # Calls that may fail in the source, and the calls by hand that stand for them.
 CALLS = {"push_in": "push", "insert_in": "insert", "extend_in": "extend_from_slice", "reserve_in": "reserve", "try_clone": "clone"}
 # Modules of the source that are no part of the product: they are tests' and a witness.
-LEFT_OUT = {"ecc_flash": {"witness"}, "page_turnover": {"operation"}, "reports": {"plain"}}
+LEFT_OUT = {"ecc_flash": {"witness"}, "page_turnover": {"operation"}}
 # Derives that the source has and Rust does by itself or has written out, and those that may be added: no code of the source calls them.
 DONE, ADDED = {"Drop", "Error"}, {"Clone", "Copy", "Debug", "Default", "PartialEq", "Eq"}
 

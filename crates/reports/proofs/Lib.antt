@@ -8,7 +8,6 @@ pub mod Rule
 pub mod Sizes
 pub mod Due
 pub mod Following
-pub mod FromLast
 pub mod LatestPoll
 pub mod Changes
 pub mod Made

@@ -5,5 +5,4 @@ pub mod Queue
 pub mod Poll
 pub mod Answers
 pub mod History
-pub mod Plain
 pub mod representation

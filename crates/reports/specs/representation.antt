@@ -1,6 +1,5 @@
 -- Representation: the files of this folder.
 pub mod Kept
 pub mod Next
-pub mod Plain
 pub mod Relation
 pub mod Words

@@ -12,7 +12,6 @@ use arrayvec::ArrayVec;
 pub mod bytes;
 mod idle;
 pub mod input_report;
-pub mod plain;
 pub mod poller;
 mod queue;
 mod sent;
