@@ -29,7 +29,7 @@ use Rattle.keyboard.specs.Operated.{LosesNothing, Works}
 use Rattle.keyboard.specs.representation.Relation as keyboard_refines
 use Rattle.keyboard.specs.representation.Value.{KeyboardValue}
 use Rattle.keyboard.proofs.Working.{made}
-use Rattle.session_theorem.specs.Heard.{heard, with_heard}
+use Rattle.world.specs.Heard.{heard, with_heard}
 use Rattle.world.specs.declared.injector.Operation.{Operation as Asked}
 use Rattle.world.specs.declared.event.Answer.{Answer}
 use Rattle.world.specs.declared.event.Answer.TheVariants as answer

@@ -15,7 +15,7 @@ ghost use Rattle.keymap_store.specs.declared.store.Work.TheVariants.{Failed};
 ghost use Rattle.keyboard.specs.Calls.{In};
 ghost use Rattle.keyboard.specs.representation.Relation as keyboard_refines;
 ghost use Rattle.keyboard.specs.representation.Value.{RunsOn};
-ghost use Rattle.session_theorem.specs.Heard.{heard, with_heard};
+ghost use Rattle.world.specs.Heard.{heard, with_heard};
 ghost use Rattle.world.specs.declared.event.Answer.TheVariants.{Restarted, Worked};
 ghost use Rattle.world.specs.Kinds.{as_answer};
 ghost use Rattle.world.specs.Conforming.{MayRefuse, is_no_memory};

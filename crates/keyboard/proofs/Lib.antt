@@ -23,4 +23,6 @@ pub mod Finding
 pub mod Starting
 pub mod Heading
 pub mod Apart
+pub mod Following
+pub mod Serving
 pub mod Progressing

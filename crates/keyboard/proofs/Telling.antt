@@ -25,7 +25,7 @@ use Rattle.keyboard.specs.Fate.{Fate, works, settled, failed, fate, fate_after, 
 use Rattle.keyboard.specs.Commands.{accepts, working}
 use Rattle.keyboard.specs.Endpoint.{verdict_reported, with_out, ep_calls, stage_after}
 use Rattle.keyboard.specs.Conforming.{IsAnswered, OutAnswer}
-use Rattle.keyboard.specs.Acknowledged.{SameTransfer, DoesNotWrite, NoneAcceptedWrites, KeepsAcknowledged}
+use Rattle.keyboard.specs.Acknowledged.{SameTransfer, DoesNotWrite, NoneAcceptedWrites, IsAcknowledgedInSession, KeepsAcknowledged}
 use Rattle.keyboard.proofs.Accepting.{fate-more, ended_by-failed, ended_by-idle, ended_by-working}
 use Rattle.keyboard.proofs.Changing.{changes-false}
 use Rattle.keyboard.proofs.Served.{Serves, serves}
@@ -36,13 +36,13 @@ not_accepted : (o : Option Command) (command : Command) → o ≡ None → o ≡
 not_accepted o command n s = cc
 
 -- the endpoint's calls of a transfer whose feature report was taken, and what became of its command
-record TakenBy (calls : List EpCall) (state : CommandState) : Type 0 where
-  length : ℕ
-  begins : last_setup calls ≡ Begins (Takes FeatureData) length
-  taken : list_any acknowledges (calls_since calls) ≡ true
-  command : command_state (calls_since calls) ≡ state
+pub record TakenBy (calls : List EpCall) (state : CommandState) : Type 0 where
+  pub length : ℕ
+  pub begins : last_setup calls ≡ Begins (Takes FeatureData) length
+  pub taken : list_any acknowledges (calls_since calls) ≡ true
+  pub command : command_state (calls_since calls) ≡ state
 
-or_false : (a b : Bool) → (a || b) ≡ false → b ≡ false
+pub or_false : (a b : Bool) → (a || b) ≡ false → b ≡ false
 or_false true b e = cc
 or_false false b e = e
 
@@ -68,12 +68,12 @@ ended_none Settled end e = cc
 ended_none Failed end e = cc
 
 -- a feature report that was acknowledged was offered
-record Offered (now : Stage) (packet : List ℕ) : Type 0 where
-  due : now ≡ Taking FeatureData
-  step : out_step now packet ≡ Offer (drop 1 packet)
+pub record Offered (now : Stage) (packet : List ℕ) : Type 0 where
+  pub due : now ≡ Taking FeatureData
+  pub step : out_step now packet ≡ Offer (drop 1 packet)
 
 -- what the endpoint knows of a command, by what became of it
-abbrev state_reported : Bool → Fate → CommandState
+abbrev pub state_reported : Bool → Fate → CommandState
 state_reported false f = NoCommand
 state_reported true works = Works
 state_reported true settled = Settled
@@ -85,7 +85,7 @@ checked_state true packet bytes calls n = refl
 checked_state false packet bytes calls n = n
 
 -- the stage of such a transfer
-taken_stage : (calls : List EpCall) (state : CommandState) → TakenBy calls state
+pub taken_stage : (calls : List EpCall) (state : CommandState) → TakenBy calls state
     → stage calls ≡ unless_stalled (first_stall (calls_since calls)) (after_command state (list_any is_empty_in (calls_since calls)))
 taken_stage calls state t = stage-is calls ∙ rw (t.begins, t.taken, t.command) refl
 
@@ -134,12 +134,12 @@ settled_not_failed : (f : Fate) → f ≡ failed → f ≡ settled → ⊥
 settled_not_failed f w s = cc
 
 -- a command comes with an OUT packet
-record IsOut (call : Call) : Type 0 where
-  packet : List ℕ
-  answer : EpAnswer
-  is : call ≡ Out packet answer
+pub record IsOut (call : Call) : Type 0 where
+  pub packet : List ℕ
+  pub answer : EpAnswer
+  pub is : call ≡ Out packet answer
 
-accepts_out : (before : List Call) (call : Call) (command : Command) → accepts before call ≡ Some command → IsOut call
+pub accepts_out : (before : List Call) (call : Call) (command : Command) → accepts before call ≡ Some command → IsOut call
 unfolding accepts
 accepts_out before (Scanned scan) command e = cc
 accepts_out before (SetUp bytes) command e = cc
@@ -155,9 +155,9 @@ EachCall-later P start (call ∷ later) past h = EachCall-later P start later pa
 
 module _ (defaults : DefaultCodes) where
   -- the entry has the code, and the command that works, if one does, leaves it
-  record Stored (start : List ℕ) (past : List Call) (layer key code : ℕ) : Type 0 where
-    entry_is : keymap defaults (image_after start past) layer key ≡ code
-    left_alone : DoesNotWrite defaults layer key (working defaults start past)
+  pub record Stored (start : List ℕ) (past : List Call) (layer key code : ℕ) : Type 0 where
+    pub entry_is : keymap defaults (image_after start past) layer key ≡ code
+    pub left_alone : DoesNotWrite defaults layer key (working defaults start past)
 
   -- the working command leaves the entry
   left_by : (start : List ℕ) (past : List Call) (layer key code : ℕ) (command : Command) → Stored start past layer key code → working defaults start past ≡ Some command → written defaults command layer key ≡ None
@@ -297,7 +297,20 @@ module _ (defaults : DefaultCodes) where
         command = checked_state (changes_by defaults entries (command_of_bytes bytes)) packet bytes calls (u t.not_taken) ∙ ap (λ (r : Result Command KeymapError). state_reported (changes_by defaults entries r) works) c;
       })
 
+  -- the report was due, and its packet was offered
+  pub record IsDue (start : List ℕ) (before : List Call) (packet : List ℕ) : Type 0 where
+    pub offered : Offered (stage_after defaults start before) packet
+    pub taking : IsTaking FeatureData (first_stall (calls_since (ep_calls defaults start before))) (last_setup (ep_calls defaults start before)) (progress_of (calls_since (ep_calls defaults start before)))
+
   -- the packet that brings the command
+  pub due_at_packet : (start : List ℕ) (before : List Call) (packet : List ℕ) (answer : EpAnswer) (asked : Command) → Accepts before packet answer asked → IsAnswered defaults start before (Out packet answer) → IsDue start before packet
+  due_at_packet start before packet answer asked by a =
+      let calls : List EpCall = ep_calls defaults start before in
+      let is : Offered (stage_after defaults start before) packet =
+      offered_by (image_after start before) (is_some (working defaults start before)) (setup_of before) packet (stage_after defaults start before) (serves defaults start before) by.names
+      (subst (λ (x : EpAnswer). OutAnswer defaults (out_step (stage_after defaults start before) packet) (image_after start before) (is_some (working defaults start before)) x) by.acknowledged a) in
+      record { offered = is; taking = taking_is FeatureData (first_stall (calls_since calls)) (last_setup calls) (progress_of (calls_since calls)) (sym is.due ∙ stage-is calls) }
+
   taken_at_packet : (start : List ℕ) (before : List Call) (packet : List ℕ) (answer : EpAnswer) (asked : Command) → accepts before (Out packet answer) ≡ Some asked
       → IsAnswered defaults start before (Out packet answer)
       → TakenBy (ep_calls defaults start (Out packet answer ∷ before)) (state_reported (changes defaults (keymap defaults (image_after start before)) asked) works)
@@ -306,13 +319,9 @@ module _ (defaults : DefaultCodes) where
       let by : Accepts before packet answer asked = accepted_by before packet answer asked s in
       let calls : List EpCall = ep_calls defaults start before in
       let entries : ℕ → ℕ → ℕ = keymap defaults (image_after start before) in
-      let is : Offered (stage_after defaults start before) packet =
-      offered_by (image_after start before) (is_some (working defaults start before)) (setup_of before) packet (stage_after defaults start before) (serves defaults start before) by.names
-      (subst (λ (x : EpAnswer). OutAnswer defaults (out_step (stage_after defaults start before) packet) (image_after start before) (is_some (working defaults start before)) x) by.acknowledged a) in
-      let due : IsTaking FeatureData (first_stall (calls_since calls)) (last_setup calls) (progress_of (calls_since calls)) =
-      taking_is FeatureData (first_stall (calls_since calls)) (last_setup calls) (progress_of (calls_since calls)) (sym is.due ∙ stage-is calls) in
+      let due : IsDue start before packet = due_at_packet start before packet answer asked by a in
       subst (λ (x : EpAnswer). TakenBy (with_out defaults (out_step (stage calls) packet) packet entries x calls) (state_reported (changes defaults entries asked) works)) (sym by.acknowledged)
-      (taken_offered (out_step (stage calls) packet) packet (drop 1 packet) entries asked calls is.step by.reads due (untaken start before))
+      (taken_offered (out_step (stage calls) packet) packet (drop 1 packet) entries asked calls due.offered.step by.reads due.taking (untaken start before))
 
   taken_answered : (step : OutStep) (packet : List ℕ) (entries : ℕ → ℕ → ℕ) (answer answered : EpAnswer) (calls : List EpCall) (state : CommandState) → step ≡ Answered answered → TakenBy calls state
       → TakenBy (with_out defaults step packet entries answer calls) state
@@ -357,7 +366,7 @@ module _ (defaults : DefaultCodes) where
       record { length = t.length; begins = t.begins; taken = t.taken; command = ap (λ (x : CommandState). state_after x Failed) t.command ∙ failed_state changing (fate_after defaults between) image }
   taken_more start past BusReset changing between same t = absurd same
 
-  taken_between : (start : List ℕ) (between before : List Call) (packet : List ℕ) (answer : EpAnswer) (asked : Command) → SameTransfer between → accepts before (Out packet answer) ≡ Some asked
+  pub taken_between : (start : List ℕ) (between before : List Call) (packet : List ℕ) (answer : EpAnswer) (asked : Command) → SameTransfer between → accepts before (Out packet answer) ≡ Some asked
       → IsAnswered defaults start before (Out packet answer)
       → TakenBy (ep_calls defaults start (between ++ Out packet answer ∷ before)) (state_reported (changes defaults (keymap defaults (image_after start before)) asked) (fate_after defaults between))
   taken_between start [] before packet answer asked same s a = taken_at_packet start before packet answer asked s a
@@ -402,9 +411,8 @@ module _ (defaults : DefaultCodes) where
       (subst (λ (c : Call). IsAnswered defaults start before c) o.is here.0)
       (subst (λ (c : Call). Packet (record { items = [] }) ≡ in_answer (stage_after defaults start (between ++ c ∷ before))) o.is e)
 
-  -- what was acknowledged is what the flash says
-  pub acknowledged : (start : List ℕ) (past : List Call) → EachCall (IsAnswered defaults) start past → KeepsAcknowledged defaults start past
-  acknowledged start past h layer key code a =
+  pub stays_stored : (start : List ℕ) (past : List Call) → EachCall (IsAnswered defaults) start past → (layer key code : ℕ) → IsAcknowledgedInSession defaults past layer key code → Stored start past layer key code
+  stays_stored start past h layer key code a =
       let reported : Call = In (Packet (record { items = [] })) in
       let rest : List Call = a.between ++ a.packet ∷ a.before in
       let is : past ≡ a.after ++ reported ∷ rest = a.past_is ∙ append_assoc a.after (reported ∷ a.between) (a.packet ∷ a.before) in
@@ -419,4 +427,8 @@ module _ (defaults : DefaultCodes) where
       stored_more start rest reported layer key code a.in_layers a.in_keys (orderly defaults start rest here.1) (effect defaults start rest reported here.0) writes.0 there in
       let after : Stored start (a.after ++ reported ∷ rest) layer key code =
       stored start a.after (reported ∷ rest) layer key code a.in_layers a.in_keys all (NoneAcceptedWrites-sooner a.after (reported ∷ a.between) (a.packet ∷ a.before) layer key a.not_since) now in
-      subst (λ (xs : List Call). keymap defaults (image_after start xs) layer key ≡ code) (sym is) after.entry_is
+      subst (λ (xs : List Call). Stored start xs layer key code) (sym is) after
+
+  -- what was acknowledged is what the flash says
+  pub acknowledged : (start : List ℕ) (past : List Call) → EachCall (IsAnswered defaults) start past → KeepsAcknowledged defaults start past
+  acknowledged start past h layer key code a = (stays_stored start past h layer key code a).entry_is

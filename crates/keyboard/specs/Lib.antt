@@ -17,3 +17,4 @@ pub mod Finds
 pub mod Turnovers
 pub mod representation
 pub mod Progress
+pub mod Sessions

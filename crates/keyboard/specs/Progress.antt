@@ -5,11 +5,12 @@ use Rattle.layers.specs.Codes.{DefaultCodes}
 use Rattle.layers.specs.declared.command.Command.{Command}
 use Rattle.page_turnover.specs.Usable.{IsUsable}
 use Rattle.control_ep.specs.declared.answer.EpAnswer.{EpAnswer}
-use Rattle.control_ep.specs.declared.answer.EpAnswer.TheVariants.{Ack, Packet}
+use Rattle.control_ep.specs.declared.answer.EpAnswer.TheVariants.{Ack, Nak, Packet}
 use Rattle.keymap_store.specs.declared.store.Work.TheVariants.{Working, Settled, Failed}
 use Rattle.keymap_store.specs.Operations.{operations_of}
 use Rattle.keymap_store.specs.Submits.{IsWorn}
-use Rattle.keyboard.specs.Calls.{Call, Worked, image_after, keymap}
+use Rattle.keyboard.specs.Bounded.{counted}
+use Rattle.keyboard.specs.Calls.{Call, SetUp, Out, In, Worked, BusReset, image_after, keymap}
 use Rattle.keyboard.specs.Commands.{working}
 use Rattle.keyboard.specs.Fate.{changes}
 
@@ -34,6 +35,30 @@ module _ (defaults : DefaultCodes) where
   -- how many steps a command takes: one for each of its operations, and none where it changes nothing
   abbrev pub steps_for : Bytes → Command → ℕ
   steps_for image command = if changes defaults (keymap defaults image) command then length (operations_of defaults image command) else 0
+
+-- how many steps of the flash work are among these calls
+abbrev pub steps_in : List Call → ℕ
+steps_in [] = 0
+steps_in (call ∷ before) = counted call (steps_in before)
+
+-- the calls, newest first, leave a packet of data due: of endpoint 0 nothing came but OUT packets that were answered NAK
+abbrev pub StaysDue : List Call → Type 0
+StaysDue [] = Unit {0}
+StaysDue (SetUp bytes ∷ before) = ⊥
+StaysDue (Out packet answer ∷ before) = (answer ≡ Nak) × StaysDue before
+StaysDue (In answer ∷ before) = ⊥
+StaysDue (BusReset ∷ before) = ⊥
+StaysDue (_ ∷ before) = StaysDue before
+
+-- the calls, newest first, leave a status stage due: of endpoint 0 nothing came but IN packets, none of them answered by the
+-- empty packet
+abbrev pub StaysOpen : List Call → Type 0
+StaysOpen [] = Unit {0}
+StaysOpen (SetUp bytes ∷ before) = ⊥
+StaysOpen (Out packet answer ∷ before) = ⊥
+StaysOpen (In answer ∷ before) = (answer ≢ Packet (record { items = [] })) × StaysOpen before
+StaysOpen (BusReset ∷ before) = ⊥
+StaysOpen (_ ∷ before) = StaysOpen before
 
 -- each of these steps is answered Working
 abbrev pub AllWork : List Call → Type 0

@@ -23,6 +23,7 @@ ghost use Rattle.keyboard.specs.Endpoint.{verdict_reported, stage_after};
 ghost use Rattle.keyboard.specs.representation.Private.{Checks};
 ghost use Rattle.keyboard.specs.Restart.{CutsLegally};
 ghost use Rattle.keyboard.specs.Conforming.{IsAnswered, MakesSuch};
+ghost use Rattle.keyboard.specs.Sessions.{Session, MayLeave, Follow};
 
 use crate::feature::{command_of_bytes, verdict_of};
 use crate::room::Room;
@@ -81,7 +82,7 @@ impl<D: Defaults> Model for KeyboardOf<D> {
 
 impl<D: Defaults> KeyboardOf<D> {
     ghost use Rattle.keyboard.specs.representation.Value.{RunsOn, at_work};
-    ghost use Rattle.keyboard.specs.representation.Relation.{Refines};
+    ghost use Rattle.keyboard.specs.representation.Relation.{Refines, RefinesAfter};
 
     /// Starts a keyboard on a flash, whose keymap it reads: report protocol, no LED on, every key up,
     /// nothing sent, entry (0, 0) selected, and no transfer. `AllocError` where there was no room for the
@@ -89,6 +90,9 @@ impl<D: Defaults> KeyboardOf<D> {
     pub fn start<F: NorFlash>(alloc: Global, flash: &F) -> Result<KeyboardOf<D>, AllocError>
         // it stands for no call, on this image
         ensures refines { IfOk result (λ keyboard. Refines D.defaults (F.image flash.now) [] keyboard) }
+        // after a power loss it stands for the sessions before, and for no call since
+        ensures sessions { (now : Session) (earlier : List Session) → Follow D.defaults (now ∷ earlier) → MayLeave D.defaults now.first now.past (F.image flash.now)
+            → IfOk result (λ keyboard. RefinesAfter D.defaults (now ∷ earlier) (record { first = F.image flash.now; past = [] }) keyboard) }
         // it runs on this flash
         ensures runs_on { IfOk result (λ keyboard. RunsOn D.defaults (F.image flash.now) keyboard) }
     {
@@ -101,6 +105,9 @@ impl<D: Defaults> KeyboardOf<D> {
     pub fn start_in<F: NorFlash>(room: Room, flash: &F) -> KeyboardOf<D>
         // it stands for no call, on this image
         ensures refines { Refines D.defaults (F.image flash.now) [] result }
+        // after a power loss it stands for the sessions before, and for no call since
+        ensures sessions { (now : Session) (earlier : List Session) → Follow D.defaults (now ∷ earlier) → MayLeave D.defaults now.first now.past (F.image flash.now)
+            → RefinesAfter D.defaults (now ∷ earlier) (record { first = F.image flash.now; past = [] }) result }
         // it runs on this flash
         ensures runs_on { RunsOn D.defaults (F.image flash.now) result }
     {
@@ -120,6 +127,9 @@ impl<D: Defaults> KeyboardOf<D> {
     pub fn restart<F: NorFlash>(&mut self, flash: &F)
         // it stands for no call, on this image
         ensures refines { Refines D.defaults (F.image flash.now) [] self.new }
+        // after a power loss it stands for the sessions before, and for no call since
+        ensures sessions { (now : Session) (earlier : List Session) → Follow D.defaults (now ∷ earlier) → MayLeave D.defaults now.first now.past (F.image flash.now)
+            → RefinesAfter D.defaults (now ∷ earlier) (record { first = F.image flash.now; past = [] }) self.new }
         // it runs on this flash
         ensures runs_on { RunsOn D.defaults (F.image flash.now) self.new }
     {

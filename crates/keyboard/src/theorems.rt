@@ -1,9 +1,9 @@
 //! What follows for every session in which each call is answered as it has to be.
 
-ghost use Rattle.std.specs.Prelude.{◌≡◌, ◌≢◌, ◌<◌, ◌≤◌, ◌+◌, ◌∷◌, ◌++◌, ℕ, suc, List, [], Ok, Some, length, map, slice_index};
+ghost use Rattle.std.specs.Prelude.{◌≡◌, ◌≢◌, ◌<◌, ◌≤◌, ◌+◌, ◌==◌, ◌∷◌, ◌++◌, ℕ, suc, nat_lt, if◌then◌else◌, List, [], Ok, Some, length, map, slice_index};
 ghost use Rattle.flash_model.specs.Image.{IsImage};
 ghost use Rattle.flash_model.specs.Operations.{OnePage};
-ghost use Rattle.layers.specs.Codes.{DefaultCodes};
+ghost use Rattle.layers.specs.Codes.{layers, keys, DefaultCodes};
 ghost use Rattle.layers.specs.Entries.{changed};
 ghost use Rattle.layers.specs.declared.command.Command.{Command};
 ghost use Rattle.page_turnover.specs.declared.operation.Operation.{Operation};
@@ -19,15 +19,17 @@ ghost use Rattle.keymap_store.specs.declared.store.Work.{Work};
 ghost use Rattle.keyboard.specs.Acknowledged.{KeepsAcknowledged, IsConfirmed, IsSettled, SettledAfter};
 ghost use Rattle.keyboard.specs.Bounded.{IsInTime, steps_since};
 ghost use Rattle.keyboard.specs.Calls.{Call, SetUp, Out, In, Worked, image_after, keymap};
-ghost use Rattle.keyboard.specs.Commands.{Accepted, accepted, accepted_before, settled_of, standing_of, working};
+ghost use Rattle.keyboard.specs.Commands.{Accepted, accepts, accepted, accepted_before, settled_of, standing_of, working};
+ghost use Rattle.keyboard.specs.Fate.{works, settled, fate};
 ghost use Rattle.keyboard.specs.Feature.{command_of_bytes};
 ghost use Rattle.keyboard.specs.Finds.{FindsAllButLast};
 ghost use Rattle.keyboard.specs.Headers.{OwnHeaders};
 ghost use Rattle.keyboard.specs.Conforming.{IsAnswered, IsConforming};
 ghost use Rattle.control_ep.specs.declared.answer.EpAnswer.{EpAnswer};
 ghost use Rattle.keyboard.specs.Operated.{Works, HoldsFirst};
-ghost use Rattle.keyboard.specs.Progress.{set_feature, IsReady, AreWhole, steps_for, IsServed};
+ghost use Rattle.keyboard.specs.Progress.{set_feature, IsReady, AreWhole, steps_for, steps_in, StaysDue, StaysOpen, IsServed};
 ghost use Rattle.keyboard.specs.Restart.{LegalRestart, RestartsLegally};
+ghost use Rattle.keyboard.specs.Sessions.{Session, MayLeave, Follow, IsAcknowledged};
 ghost use Rattle.keyboard.specs.Single.{unanswered, without_image, NoneFails, MayBeTorn};
 ghost use Rattle.keyboard.specs.Sound.{KeepsSound};
 ghost use Rattle.keyboard.specs.representation.Relation.{Refines};
@@ -128,7 +130,7 @@ pub fn confirmed_is_settled()
 /// While a command works, fewer than 387 steps of the flash work were made for it: so it is settled,
 /// or fails, by the 387th.
 pub fn in_time()
-    ensures { (defaults : DefaultCodes) (start : List ℕ) (past : List Call) (keyboard : KeyboardValue) → Refines defaults start past keyboard → IsInTime defaults start past }
+    ensures { (defaults : DefaultCodes) (start : List ℕ) (past : List Call) → IsConforming defaults start past → IsInTime defaults start past }
 {}
 
 /// Between two compactions of a session, at least 127 flash operations are made that touch the tail of the
@@ -159,15 +161,42 @@ pub fn one_image()
         → map without_image a ≡ map without_image b → a ≡ b }
 {}
 
-/// Progress: a host that behaves is served. Where each slot 0 is sound, the flash is not worn and no
-/// command works, a SETUP packet of SET_REPORT and a packet with a command are acknowledged. Then come
-/// the steps of the flash work that `operations_of` names, and nothing between them, of which none
-/// fails: all but the last are answered Working, the last Settled. A command that changes nothing takes
-/// no step. The status stage is then answered by the empty packet.
+/// Progress: a host that behaves is served. A SETUP packet of SET_REPORT came, and of endpoint 0 nothing since but
+/// OUT packets that were answered NAK. Where each slot 0 is sound, the flash is not worn and no command works, the
+/// packet of a command is acknowledged. From then on `steps_for` counts the steps of the flash work that the command
+/// takes: one for each of `operations_of`, and none where it changes nothing. Whatever comes between, while no step
+/// fails: the command works until that step, and is settled from then on. While of endpoint 0 only IN packets come,
+/// they are answered NAK until that step, and the first one after it is answered by the empty packet.
 ///
 /// No step fails on a flash that answers no fault (`Keyboard::work`: `faultless`).
 pub fn a_command_is_served()
-    ensures { (defaults : DefaultCodes) (start : List ℕ) (past steps : List Call) (a b c d e : ℕ) (given status : EpAnswer) (command : Command) → IsReady defaults start past
+    ensures acknowledged { (defaults : DefaultCodes) (start : List ℕ) (past between : List Call) (a b c d e : ℕ) (given : EpAnswer) (command : Command) → StaysDue between
+        → IsReady defaults start (between ++ SetUp set_feature ∷ past) → command_of_bytes (a ∷ b ∷ c ∷ d ∷ e ∷ []) ≡ Ok command
+        → IsConforming defaults start (Out (3 ∷ a ∷ b ∷ c ∷ d ∷ e ∷ []) given ∷ between ++ SetUp set_feature ∷ past)
+        → (given ≡ EpAnswer.Ack) × (accepts (between ++ SetUp set_feature ∷ past) (Out (3 ∷ a ∷ b ∷ c ∷ d ∷ e ∷ []) given) ≡ Some command) }
+    ensures settled { (defaults : DefaultCodes) (start : List ℕ) (past since : List Call) (packet : Call) (command : Command) → IsConforming defaults start (since ++ packet ∷ past)
+        → accepts past packet ≡ Some command → NoneFails since
+        → fate defaults (keymap defaults (image_after start past)) command since ≡ (if nat_lt (steps_in since) (steps_for defaults (image_after start past) command) then works else settled) }
+    // so each step until then is answered Working, but the last one Settled
+    ensures answered { (defaults : DefaultCodes) (start : List ℕ) (past since : List Call) (packet : Call) (command : Command) (work : Work) (new : List ℕ)
+        → IsConforming defaults start (Worked work new ∷ since ++ packet ∷ past) → accepts past packet ≡ Some command → NoneFails (Worked work new ∷ since)
+        → suc (steps_in since) ≤ steps_for defaults (image_after start past) command
+        → work ≡ (if suc (steps_in since) == steps_for defaults (image_after start past) command then Work.Settled else Work.Working) }
+    ensures status { (defaults : DefaultCodes) (start : List ℕ) (past since : List Call) (packet : Call) (command : Command) (answer : EpAnswer) → IsConforming defaults start (In answer ∷ since ++ packet ∷ past)
+        → accepts past packet ≡ Some command → NoneFails since → StaysOpen since
+        → answer ≡ (if nat_lt (steps_in since) (steps_for defaults (image_after start past) command) then EpAnswer.Nak else EpAnswer.Packet (record { items = [] })) }
+    // and with nothing between
+    ensures served { (defaults : DefaultCodes) (start : List ℕ) (past steps : List Call) (a b c d e : ℕ) (given status : EpAnswer) (command : Command) → IsReady defaults start past
         → command_of_bytes (a ∷ b ∷ c ∷ d ∷ e ∷ []) ≡ Ok command → AreWhole steps → length steps ≡ steps_for defaults (image_after start past) command
         → IsConforming defaults start (In status ∷ steps ++ Out (3 ∷ a ∷ b ∷ c ∷ d ∷ e ∷ []) given ∷ SetUp set_feature ∷ past) → IsServed given steps status }
+{}
+
+/// Over all sessions. A power loss ends a session, between two flash operations or inside the one of a step that may come next,
+/// and the start after it begins the next session. Each start finds a legal keymap. What the host was told is stored, in
+/// whichever session, is what the flash says, until a command is accepted that would write the entry.
+pub fn sessions_go_on()
+    ensures restarts { (defaults : DefaultCodes) (now : Session) (earlier : List Session) (image : List ℕ) → Follow defaults (now ∷ earlier) → MayLeave defaults now.first now.past image
+        → RestartsLegally defaults now.first now.past image }
+    ensures acknowledged { (defaults : DefaultCodes) (now : Session) (earlier : List Session) (layer key code : ℕ) → layer < layers → key < keys → Follow defaults (now ∷ earlier)
+        → IsAcknowledged defaults (now ∷ earlier) layer key code → keymap defaults (image_after now.first now.past) layer key ≡ code }
 {}

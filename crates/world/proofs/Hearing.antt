@@ -13,11 +13,11 @@ use Rattle.keyboard.specs.Calls.{Polled, EachCall}
 use Rattle.keyboard.specs.Effects.{protocol_after}
 use Rattle.keyboard.specs.Feature.{yes, no}
 use Rattle.keyboard.specs.Conforming as keyboard
-use Rattle.session_theorem.specs.Heard.{with_heard, Hears, at_start, one_more, NoneOrServed, none_kept}
-use Rattle.session_theorem.specs.Read.{IsReadAs}
-use Rattle.session_theorem.proofs.Sending.{sent_is_wanted}
-use Rattle.session_theorem.proofs.Fetching.{fetched_is_served, gathered_is_served}
-use Rattle.session_theorem.proofs.Reading.{read_is_wanted}
+use Rattle.world.specs.Heard.{with_heard, Hears, at_start, one_more, NoneOrServed, none_kept}
+use Rattle.world.specs.Read.{IsReadAs}
+use Rattle.world.proofs.Sending.{sent_is_wanted}
+use Rattle.world.proofs.Fetching.{fetched_is_served, gathered_is_served}
+use Rattle.world.proofs.Understood.{read_is_wanted}
 use Rattle.world.specs.declared.event.Event.{Event}
 use Rattle.world.specs.declared.event.Event.TheVariants.{Scan, Setup, OutPacket, InPacket, Poll, Work, WorkFault, Cut, CutInWork, BusReset, Entry, SlotAt, Leds}
 use Rattle.world.specs.declared.event.Answer.{Answer}

@@ -8,9 +8,9 @@ use Rattle.keyboard.specs.Calls.{Call, EachCall}
 use Rattle.keyboard.specs.Feature.{Where, yes, no}
 use Rattle.keyboard.specs.Conforming.{IsAnswered}
 use Rattle.std.specs.Int.{div_ceil}
-use Rattle.session_theorem.specs.Fetched.{AreTaken, IsFetched}
-use Rattle.session_theorem.specs.Heard.{heard, with_heard, Hears, at_start, one_more, NoneOrServed, none_kept, served_kept}
-use Rattle.session_theorem.proofs.Keeping.{kept_is_fetched}
+use Rattle.world.specs.Fetched.{AreTaken, IsFetched}
+use Rattle.world.specs.Heard.{heard, with_heard, Hears, at_start, one_more, NoneOrServed, none_kept, served_kept}
+use Rattle.world.proofs.Descriptors.{kept_is_fetched}
 
 -- ---- a session is heard on top of what was reported before
 

@@ -7,10 +7,10 @@ use Rattle.layers.specs.Codes.{DefaultCodes}
 use Rattle.keyboard.specs.Calls.{Call, Polled}
 use Rattle.keyboard.specs.Effects.{protocol_after}
 use Rattle.keyboard.specs.Conforming as keyboard
-use Rattle.session_theorem.specs.Due.{due}
-use Rattle.session_theorem.specs.Sent.{IsWantedAt}
-use Rattle.session_theorem.proofs.Sending.{sent_is_wanted}
-use Rattle.session_theorem.proofs.Following.{goes_on, not_again}
+use Rattle.world.specs.Due.{due}
+use Rattle.world.specs.Sent.{IsWantedAt}
+use Rattle.world.proofs.Sending.{sent_is_wanted}
+use Rattle.world.proofs.Following.{goes_on, not_again}
 use Rattle.world.specs.declared.event.Event.{Event}
 use Rattle.world.specs.declared.event.Event.TheVariants.{Scan, Setup, OutPacket, InPacket, Poll, Work, WorkFault, Cut, CutInWork, BusReset, Entry, SlotAt, Leds}
 use Rattle.world.specs.declared.event.Answer.{Answer}

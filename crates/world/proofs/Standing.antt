@@ -28,7 +28,7 @@ use Rattle.world.specs.Asked.{noted, asked_by, asked_after}
 use Rattle.world.specs.Erases.{next_in, made_in}
 use Rattle.world.specs.Flash.{armed_by}
 use Rattle.world.specs.Kinds.{Step, Kind, starts, calls, looks, kind_of, as_answer}
-use Rattle.session_theorem.specs.Heard.{heard, with_heard}
+use Rattle.world.specs.Heard.{heard, with_heard}
 use Rattle.world.specs.History.{Session, session_with, session, heard_in, host_calls, flash_after}
 use Rattle.world.specs.Conforming.{Answered, MayRefuse, MakesOn, OperatedAs, WorksIn}
 use Rattle.world.specs.Order.{found_by}

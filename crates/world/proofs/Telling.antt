@@ -2,18 +2,16 @@
 use Rattle.std.proofs.Common.{◌≡◌, ℕ, ◌<◌, Bool, Option, Some, None, List, [], ◌∷◌, ◌++◌, refl, sym, ◌∙◌, append_assoc, subst, ap}
 use Rattle.flash_model.specs.Sim.{SimValue}
 use Rattle.layers.specs.Codes.{layers, keys, DefaultCodes}
-use Rattle.layers.specs.Entries.{written, changed}
+use Rattle.layers.specs.Entries.{written}
 use Rattle.layers.specs.declared.command.Command.{Command}
-use Rattle.layers.proofs.LastWriter.{changed-nil, changed-one, changed-append}
 use Rattle.control_ep.specs.declared.answer.EpAnswer.TheVariants.{Packet as EpPacket}
 use Rattle.keymap_store.specs.declared.store.Work.{Work as WorkAnswer}
 use Rattle.host.specs.Calls.{HostCall}
 use Rattle.keyboard.specs.Acknowledged as keyboard
 use Rattle.keyboard.specs.Calls.{Call, Scanned, SetUp, Out, In, Polled, Worked as KeyboardWorked, BusReset as KeyboardReset, image_after, keymap, EachCall}
-use Rattle.keyboard.specs.Commands.{Accepted, accepts, accepted, accepted_before, accepted_with, if_settled, settled_of}
-use Rattle.keyboard.specs.Fate.{Fate, works, settled, failed}
+use Rattle.keyboard.specs.Commands.{accepts}
 use Rattle.keyboard.specs.Conforming.{IsAnswered as IsCallAnswered}
-use Rattle.keyboard.proofs.Sessions.{orderly}
+use Rattle.keyboard.proofs.Following.{NoneWrites, kept_in_session}
 use Rattle.keyboard.proofs.Telling.{acknowledged as reported_in_session}
 use Rattle.world.specs.declared.event.Event.{Event}
 use Rattle.world.specs.declared.event.Event.TheVariants.{Scan, Setup, OutPacket, InPacket, Poll, Work, WorkFault, Cut, CutInWork, BusReset, Entry, SlotAt, Leds}
@@ -49,57 +47,17 @@ kind_reported : (status : Step) → (status.event ≡ InPacket) × (status.answe
 kind_reported status (e, a) = ap (λ (x : Event). kind_of x status.answer status.flash.image) e ∙ ap (λ (x : Answer). kind_of InPacket x status.flash.image) a
 
 module _ (defaults : DefaultCodes) where
-  -- none of a session's commands writes the entry
-  abbrev NoneWrites : List Call → ℕ → ℕ → Type 0
-  NoneWrites [] layer key = Unit {0}
-  NoneWrites (call ∷ before) layer key = keyboard.DoesNotWrite defaults layer key (accepts before call) × NoneWrites before layer key
-
-  abbrev AllLeave : List Accepted → ℕ → ℕ → Type 0
-  AllLeave [] layer key = Unit {0}
-  AllLeave (one ∷ later) layer key = (written defaults one.command layer key ≡ None) × AllLeave later layer key
-
-  AllLeave-append : (xs ys : List Accepted) (layer key : ℕ) → AllLeave xs layer key → AllLeave ys layer key → AllLeave (xs ++ ys) layer key
-  AllLeave-append [] ys layer key h k = k
-  AllLeave-append (one ∷ xs) ys layer key h k = (h.0, AllLeave-append xs ys layer key h.1 k)
-
-  with_left : (entries : ℕ → ℕ → ℕ) (after : List Call) (o : Option Command) (layer key : ℕ) → keyboard.DoesNotWrite defaults layer key o → AllLeave (accepted_with defaults entries after o) layer key
-  with_left entries after None layer key l = tt
-  with_left entries after (Some command) layer key l = (l, tt)
-
-  before_left : (first : List ℕ) (after past : List Call) (layer key : ℕ) → NoneWrites past layer key → AllLeave (accepted_before defaults first after past) layer key
-  before_left first after [] layer key n = tt
-  before_left first after (call ∷ before) layer key n =
-      AllLeave-append (accepted_before defaults first (after ++ call ∷ []) before) (accepted_with defaults (keymap defaults (image_after first before)) after (accepts before call)) layer key
-      (before_left first (after ++ call ∷ []) before layer key n.1) (with_left (keymap defaults (image_after first before)) after (accepts before call) layer key n.0)
-
-  all_left : (first : List ℕ) (past : List Call) (layer key : ℕ) → NoneWrites past layer key → AllLeave (accepted defaults first past) layer key
-  unfolding accepted
-  all_left first past layer key n = before_left first [] past layer key n
-
-  -- the settled ones among them, on top of any keymap that has the code
-  settled_left : (f : Fate) (entries : ℕ → ℕ → ℕ) (command : Command) (later : List Command) (layer key code : ℕ) → written defaults command layer key ≡ None → entries layer key ≡ code
-      → ((m : ℕ → ℕ → ℕ) → m layer key ≡ code → changed defaults m later layer key ≡ code) → changed defaults entries (if_settled f command later) layer key ≡ code
-  settled_left works entries command later layer key code w e k = k entries e
-  settled_left failed entries command later layer key code w e k = k entries e
-  settled_left settled entries command later layer key code w e k =
-      changed-append defaults entries (command ∷ []) later layer key ∙ k (changed defaults entries (command ∷ [])) (changed-one defaults entries command layer key ∙ rw w e)
-
-  left_code : (all : List Accepted) (entries : ℕ → ℕ → ℕ) (layer key code : ℕ) → AllLeave all layer key → entries layer key ≡ code → changed defaults entries (settled_of all) layer key ≡ code
-  left_code [] entries layer key code h e = changed-nil defaults entries layer key ∙ e
-  left_code (one ∷ later) entries layer key code h e =
-      settled_left one.fate entries one.command (settled_of later) layer key code h.0 e (λ m i. left_code later m layer key code h.1 i)
-
   -- how the session that a history ends in knows of it: it was acknowledged in it; or the session's first keymap has the code,
   -- and none of its commands writes the entry
   data Knows (now : Session) (layer key code : ℕ) : Type 0 where
     in_session : keyboard.IsAcknowledgedInSession defaults now.past layer key code → Knows now layer key code
-    from_start : keymap defaults now.first layer key ≡ code → NoneWrites now.past layer key → Knows now layer key code
+    from_start : keymap defaults now.first layer key ≡ code → NoneWrites defaults now.past layer key → Knows now layer key code
 
   stored : (now : Session) (layer key code : ℕ) → layer < layers → key < keys → EachCall (IsCallAnswered defaults) now.first now.past → Knows now layer key code
       → keymap defaults (image_after now.first now.past) layer key ≡ code
   stored now layer key code l k h (in_session a) = reported_in_session defaults now.first now.past h layer key code a
   stored now layer key code l k h (from_start e n) =
-      (orderly defaults now.first now.past h).kept layer key l k ∙ left_code (accepted defaults now.first now.past) (keymap defaults now.first) layer key code (all_left now.first now.past layer key n) e
+      (kept_in_session defaults now.first now.past layer key code l k h n e).entry_is
 
   -- a call more
   knows_call : (first : List ℕ) (past : List Call) (call : Call) (layer key code : ℕ) → keyboard.DoesNotWrite defaults layer key (accepts past call) → Knows (record { first = first; past = past }) layer key code

@@ -5,7 +5,7 @@ use Rattle.std.specs.Prelude.{Bool, not, Option, None, Some, List, [], ◌∷◌
 use Rattle.flash_model.specs.Sim.{SimValue}
 use Rattle.keyboard.specs.Calls.{Call}
 use Rattle.host.specs.Calls.{HostCall, lost}
-use Rattle.session_theorem.specs.Heard.{heard, with_heard}
+use Rattle.world.specs.Heard.{heard, with_heard}
 use Rattle.world.specs.Kinds.{Step, Kind, starts, calls, looks, kind}
 
 -- the flash after these steps

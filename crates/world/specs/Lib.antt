@@ -1,3 +1,12 @@
+pub mod DescriptorFields
+pub mod Texts
+pub mod Usages
+pub mod Due
+pub mod Sent
+pub mod Heard
+pub mod Read
+pub mod Fetched
+pub mod Named
 pub mod Acknowledged
 pub mod Asked
 pub mod Bounded
@@ -18,3 +27,6 @@ pub mod Relation
 pub mod Torn
 pub mod Wear
 pub mod representation
+pub mod Histories
+pub mod Pad
+pub mod Meanwhile

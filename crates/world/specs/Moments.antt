@@ -5,8 +5,8 @@ use Rattle.flash_model.specs.Sim.{SimValue}
 use Rattle.host.specs.declared.reading.Reading.{Reading}
 use Rattle.layers.specs.Codes.{DefaultCodes}
 use Rattle.keyboard.specs.Calls.{Call, Polled}
-use Rattle.session_theorem.specs.Due.{Due}
-use Rattle.session_theorem.specs.Sent.{IsWantedAt}
+use Rattle.world.specs.Due.{Due}
+use Rattle.world.specs.Sent.{IsWantedAt}
 use Rattle.world.specs.declared.event.Answer.TheVariants.{Sent}
 use Rattle.world.specs.Kinds.{Step}
 use Rattle.world.specs.History.{session}

@@ -4,10 +4,11 @@ use Rattle.layers.specs.Codes.{DefaultCodes}
 use Rattle.layers.specs.declared.command.Command.{Command}
 use Rattle.flash_model.specs.Sim.{SimValue}
 use Rattle.keymap_store.specs.declared.store.Work.TheVariants.{Working, Settled}
+use Rattle.keyboard.specs.Calls.{Call}
 use Rattle.keyboard.specs.Progress as keyboard
 use Rattle.world.specs.declared.event.Event.TheVariants.{Setup, OutPacket, InPacket, Work}
 use Rattle.world.specs.declared.event.Answer.TheVariants.{Ack, Packet, Worked}
-use Rattle.world.specs.Kinds.{Step}
+use Rattle.world.specs.Kinds.{Step, Kind, starts, calls, looks, kind}
 use Rattle.world.specs.History.{session, flash_after, image_after}
 
 module _ (defaults : DefaultCodes) where
@@ -15,6 +16,24 @@ module _ (defaults : DefaultCodes) where
   pub record IsReady (start : SimValue) (history : List Step) : Type 0 where
     pub session : keyboard.IsReady defaults (session start history).first (session start history).past
     pub unarmed : (flash_after start history).armed ≡ None
+
+-- in none of these steps, newest first, was the power lost
+abbrev pub IsNoStart : Kind → Type 0
+IsNoStart starts = ⊥
+IsNoStart _ = Unit {0}
+
+abbrev pub NoneStarts : List Step → Type 0
+NoneStarts [] = Unit {0}
+NoneStarts (step ∷ before) = IsNoStart (kind step) × NoneStarts before
+
+-- the keyboard's calls among these steps: a look is none
+abbrev pub with_call : Kind → List Call → List Call
+with_call (calls call) before = call ∷ before
+with_call _ before = before
+
+abbrev pub calls_in : List Step → List Call
+calls_in [] = []
+calls_in (step ∷ before) = with_call (kind step) (calls_in before)
 
 -- steps of the flash work, and nothing between them
 abbrev pub AreWorks : List Step → Type 0

@@ -7,8 +7,8 @@ use Rattle.host.specs.Kept.{Fetch, gathering, kept}
 use Rattle.host.specs.declared.reading.Reading.{Reading}
 use Rattle.layers.specs.Codes.{DefaultCodes}
 use Rattle.keyboard.specs.Feature.{Where}
-use Rattle.session_theorem.specs.Fetched.{IsFetched}
-use Rattle.session_theorem.specs.Read.{IsReadAs}
+use Rattle.world.specs.Fetched.{IsFetched}
+use Rattle.world.specs.Read.{IsReadAs}
 use Rattle.world.specs.declared.event.Answer.TheVariants.{Sent}
 use Rattle.world.specs.Kinds.{Step}
 use Rattle.world.specs.History.{session, host_calls}

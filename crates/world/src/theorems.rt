@@ -1,21 +1,25 @@
 //! What follows for every history in which each event is answered as it has to be.
 
-ghost use Rattle.std.specs.Prelude.{◌≡◌, ◌<◌, ◌∷◌, ◌++◌, ℕ, List, [], Ok, None, Some, map, replicate};
+ghost use Rattle.std.specs.Prelude.{◌≡◌, ◌<◌, ◌∷◌, ◌++◌, ℕ, nat_lt, if◌then◌else◌, List, [], Ok, None, Some, map, replicate};
 ghost use Rattle.flash_model.specs.Image.{page_count, slot_at};
 ghost use Rattle.flash_model.specs.Sim.{SimValue};
+ghost use Rattle.keyboard.specs.Calls.{keymap};
+ghost use Rattle.keyboard.specs.Fate.{works, settled, fate};
 ghost use Rattle.keyboard.specs.Feature.{command_of_bytes};
+ghost use Rattle.keyboard.specs.Progress.{set_feature, steps_for, steps_in, StaysDue, StaysOpen};
+ghost use Rattle.keyboard.specs.Single.{NoneFails};
 ghost use Rattle.layers.specs.Codes.{layers, keys, DefaultCodes};
 ghost use Rattle.layers.specs.Entries.{written};
 ghost use Rattle.layers.specs.declared.command.Command.{Command};
-ghost use Rattle.world.specs.Acknowledged.{NoneAcceptedWrites};
-ghost use Rattle.world.specs.declared.event.Answer.TheVariants.{EntryIs};
-ghost use Rattle.world.specs.declared.event.Event.TheVariants.{Entry};
+ghost use Rattle.world.specs.Acknowledged.{accepts_here, NoneAcceptedWrites};
+ghost use Rattle.world.specs.declared.event.Answer.TheVariants.{Ack, Nak, Packet, EntryIs};
+ghost use Rattle.world.specs.declared.event.Event.TheVariants.{Setup, OutPacket, InPacket, Entry};
 ghost use Rattle.world.specs.Erases.{ErasesSeldom};
-ghost use Rattle.world.specs.History.{EachStep};
+ghost use Rattle.world.specs.History.{EachStep, image_after};
 ghost use Rattle.world.specs.Kinds.{Step};
 ghost use Rattle.world.specs.Conforming.{IsConforming};
 ghost use Rattle.world.specs.Memory.{IsRefusedWhereWanted};
-ghost use Rattle.world.specs.Progress.{IsReady, BringsCommand, IsServed};
+ghost use Rattle.world.specs.Progress.{IsReady, NoneStarts, calls_in, BringsCommand, IsServed};
 ghost use Rattle.world.specs.Promise.{Promise};
 ghost use Rattle.world.specs.Torn.{LeavesTorn};
 
@@ -48,12 +52,26 @@ pub fn memory_is_refused_where_wanted()
         → EachStep IsRefusedWhereWanted start history }
 {}
 
-/// Progress: a host that behaves, on a flash that does, is served. Where each slot 0 is sound, the flash
-/// is not worn, no command works and nothing is armed, SETUP, the packet of a command, the steps of the
-/// flash work that its operations need and nothing between them, and the status stage are answered ACK,
-/// ACK, Working .., Settled and the empty packet; a command that changes nothing needs no step. Until a
-/// later command writes the entry, each look then shows its code.
+/// Progress: a host that behaves, on a flash that does, is served. A SETUP packet of SET_REPORT came, and of
+/// endpoint 0 nothing since but OUT packets that were answered NAK. Where nothing is in its way (`IsReady`),
+/// the packet of a command is answered ACK. Whatever comes from then on but a power loss and a step that
+/// fails: the command works until as many steps of the flash work were made as `steps_for` names, and is
+/// settled from then on. While of endpoint 0 only IN packets come, they are answered NAK until that step, and
+/// the first one after it by the empty packet. Until a later command writes the entry, each look then shows
+/// its code.
 pub fn a_command_is_served()
+    ensures acknowledged { (defaults : DefaultCodes) (start : SimValue) (before between : List Step) (setup packet : Step) (a b c d e : ℕ) (command : Command) → setup.event ≡ Setup set_feature
+        → NoneStarts between → StaysDue (calls_in between) → IsReady defaults start (between ++ setup ∷ before) → command_of_bytes (a ∷ b ∷ c ∷ d ∷ e ∷ []) ≡ Ok command
+        → packet.event ≡ OutPacket (record { items = 3 ∷ a ∷ b ∷ c ∷ d ∷ e ∷ [] }) → IsConforming defaults start (packet ∷ between ++ setup ∷ before)
+        → (packet.answer ≡ Ack) × (accepts_here start (between ++ setup ∷ before) packet ≡ Some command) }
+    ensures settled { (defaults : DefaultCodes) (start : SimValue) (before since : List Step) (packet : Step) (command : Command) → IsConforming defaults start (since ++ packet ∷ before)
+        → accepts_here start before packet ≡ Some command → NoneStarts since → NoneFails (calls_in since)
+        → fate defaults (keymap defaults (image_after start before)) command (calls_in since)
+        ≡ (if nat_lt (steps_in (calls_in since)) (steps_for defaults (image_after start before) command) then works else settled) }
+    ensures status { (defaults : DefaultCodes) (start : SimValue) (before since : List Step) (packet status : Step) (command : Command) → IsConforming defaults start (status ∷ since ++ packet ∷ before)
+        → accepts_here start before packet ≡ Some command → NoneStarts since → NoneFails (calls_in since) → StaysOpen (calls_in since) → status.event ≡ InPacket
+        → status.answer ≡ (if nat_lt (steps_in (calls_in since)) (steps_for defaults (image_after start before) command) then Nak else Packet (record { items = [] })) }
+    // and with nothing between
     ensures served { (defaults : DefaultCodes) (start : SimValue) (before works : List Step) (setup packet status : Step) (a b c d e : ℕ) (command : Command) → IsReady defaults start before
         → command_of_bytes (a ∷ b ∷ c ∷ d ∷ e ∷ []) ≡ Ok command → BringsCommand defaults start before setup packet works status a b c d e command
         → IsConforming defaults start (status ∷ works ++ packet ∷ setup ∷ before) → IsServed setup packet works status }

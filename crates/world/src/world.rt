@@ -10,7 +10,7 @@ ghost use Rattle.world.specs.declared.event.Answer.TheVariants.{Restarted};
 ghost use Rattle.flash_model.specs.Sim.{SimValue};
 ghost use Rattle.world.specs.declared.event.Event.TheVariants.{Scan as ScanEvent, Setup, OutPacket, InPacket, Poll, Work as WorkEvent, WorkFault, Cut, CutInWork, BusReset, Entry, SlotAt, Leds};
 ghost use Rattle.world.specs.Kinds.{Step, as_answer};
-ghost use Rattle.session_theorem.specs.Heard.{heard, with_heard};
+ghost use Rattle.world.specs.Heard.{heard, with_heard};
 ghost use Rattle.world.specs.Conforming.{MayRefuse, is_no_memory};
 
 use crate::event::{Answer, Event, Reported};

@@ -15,6 +15,7 @@ use Rattle.keyboard.specs.Endpoint.{ep_calls}
 use Rattle.keyboard.specs.Commands.{working}
 use Rattle.keyboard.specs.Bounded.{most_steps, steps_since, accepted_image}
 use Rattle.keyboard.specs.Conforming.{IsConforming}
+use Rattle.keyboard.specs.Sessions.{Session, StartsAfter, Follow}
 use Rattle.keyboard.specs.representation.Value.{KeyboardValue, RunsOn, at_work}
 
 module _ (defaults : DefaultCodes) where
@@ -36,3 +37,9 @@ module _ (defaults : DefaultCodes) where
   pub record Refines (start : Bytes) (past : List Call) (keyboard : KeyboardValue) : Type 0 where
     pub now : PartsRefine start past keyboard
     pub answered : IsConforming defaults start past
+
+  -- so in the session after these, newest first
+  pub record RefinesAfter (earlier : List Session) (now : Session) (keyboard : KeyboardValue) : Type 0 where
+    pub refines : Refines now.first now.past keyboard
+    pub starts : StartsAfter defaults now.first earlier
+    pub were : Follow defaults earlier

@@ -1,4 +1,0 @@
-pub mod Broken
-pub mod Lost
-pub mod Shown
-pub mod Typed

@@ -1,8 +1,0 @@
-use Rattle.guarantee_example.proofs.Shown.{holds, broken}
-use Rattle.guarantee_example.proofs.pad.a_look_shows_a_code_of_the_maker.Goals as goal
-
-pub returns-clause-holds : goal.returns-clause-holds
-returns-clause-holds c pages = holds pages
-
-pub returns-clause-broken : goal.returns-clause-broken
-returns-clause-broken c pages h = broken pages h

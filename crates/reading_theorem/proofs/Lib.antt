@@ -1,9 +1,0 @@
-pub mod Fields
-pub mod Arrays
-pub mod Served
-pub mod Boot
-pub mod Bitmap
-pub mod BootRead
-pub mod ConsumerRead
-pub mod Taken
-pub mod All

@@ -1,3 +1,0 @@
-pub mod Declared
-pub mod Texts
-pub mod Usages
