@@ -6,7 +6,7 @@ use Rattle.usb_device.specs.declared.answer.EpAnswer.{EpAnswer}
 use Rattle.usb_device.specs.declared.answer.Endpoint1.{Endpoint1}
 use Rattle.usb_device.specs.Calls.{EpCall, SetUp, Out, In, Polled, BusReset}
 use Rattle.usb_device.specs.Requests.{Lent}
-use Rattle.usb_device.specs.Events.{Event, SetupCame, OutCame, InAsked, PollAsked, ResetCame, SuspendCame, ResumeCame, WakeAsked}
+use Rattle.usb_device.specs.Events.{Event, SetupCame, OutCame, InAsked, PollAsked, ResetCame, SuspendCame, ResumeCame, WakeAsked, StatusSeen, ScanCame}
 use Rattle.usb_device.specs.Steps.{Stage, Theirs, Sending, Status, Over, state_of, session, AllAnswered, InAnswer, after_in, after_out, begun, call_if_theirs, call_if_ready, polled_of}
 use Rattle.usb_device.specs.Through.{calls_of}
 use Rattle.usb_device.specs.Bus.{Seen}
@@ -57,6 +57,8 @@ aligned lent (PollAsked answer ∷ past) = at_poll (state_of lent past).stage (s
 aligned lent (ResetCame ∷ past) = at_reset (session lent past) (calls_of past)
 aligned lent (SuspendCame ∷ past) = aligned lent past
 aligned lent (ResumeCame ∷ past) = aligned lent past
+aligned lent (StatusSeen ∷ past) = aligned lent past
+aligned lent (ScanCame ∷ past) = aligned lent past
 aligned lent (WakeAsked has_report answer ∷ past) = aligned lent past
 
 asked_if_theirs : (stage : Stage) (call : EpCall) (behind : List EpCall) → asked_of (call ∷ behind) ≡ asked_of behind → asked_of (call_if_theirs stage call behind) ≡ asked_of behind
@@ -75,6 +77,8 @@ asked_same lent (PollAsked answer ∷ past) = asked_if_ready (state_of lent past
 asked_same lent (ResetCame ∷ past) = refl
 asked_same lent (SuspendCame ∷ past) = asked_same lent past
 asked_same lent (ResumeCame ∷ past) = asked_same lent past
+asked_same lent (StatusSeen ∷ past) = asked_same lent past
+asked_same lent (ScanCame ∷ past) = asked_same lent past
 asked_same lent (WakeAsked has_report answer ∷ past) = asked_same lent past
 
 grows_theirs : (stage : Stage) (call : EpCall) (behind : List EpCall) (sent : List Seen) (s d : List ℕ) → TakesOnly sent behind call → ConfirmedBefore sent s d behind
@@ -113,4 +117,6 @@ behind_confirmed lent (ResetCame ∷ past) sent s d all (inl (e, es, ed)) = cc
 behind_confirmed lent (ResetCame ∷ past) sent s d all (inr w) = inr (tt, behind_confirmed lent past sent s d all.1 w.1)
 behind_confirmed lent (SuspendCame ∷ past) sent s d all w = behind_confirmed lent past sent s d all.1 w
 behind_confirmed lent (ResumeCame ∷ past) sent s d all w = behind_confirmed lent past sent s d all.1 w
+behind_confirmed lent (StatusSeen ∷ past) sent s d all w = behind_confirmed lent past sent s d all.1 w
+behind_confirmed lent (ScanCame ∷ past) sent s d all w = behind_confirmed lent past sent s d all.1 w
 behind_confirmed lent (WakeAsked has_report answer ∷ past) sent s d all w = behind_confirmed lent past sent s d all.1 w

@@ -1,9 +1,8 @@
 -- What packets a host took as new, and what reports they are.
 use Rattle.std.proofs.lemmas.Grind.{common_steps}
 use Rattle.std.proofs.Common.{◌≡◌, ℕ, ◌+◌, Bool, true, false, not, List, [], ◌∷◌, ◌++◌, length, drop, zero, suc, refl, sym, ap, subst, ◌∙◌, ◌⊎◌, inl, inr, arith}
-use Rattle.usb_device.specs.declared.answer.Endpoint1.{Endpoint1}
-use Rattle.usb_device.specs.Bus1.{Got, New, Anew, GivenUp, same, received, Sent, Reported, Changed, is_old, newest}
-use Rattle.usb_device.specs.Reports.{cut, packets_of, with_new, IsPacket, ArePieces, HasAnew, HasNew, MayRepeat, CarriesBy, Carries, Begun}
+use Rattle.usb_device.specs.Bus1.{Got, New, Anew, GivenUp, Known, same, received, Sent, Reported, Changed, is_old, newest}
+use Rattle.usb_device.specs.Reports.{cut, packets_of, with_new, IsPacket, ArePieces, HasNew, MayRepeat, MayFollow, NothingCame, CarriesBy, Carries, Begun}
 use Rattle.usb_device.specs.representation.Link1.{copies, new_of, ArePackets}
 
 pub true_false : true ≡ false → ⊥
@@ -23,13 +22,16 @@ pub pieces_new : (size : ℕ) (report : List ℕ) (xs : List (List ℕ)) (pieces
 pieces_new size report [] pieces a p = p
 pieces_new size report (x ∷ xs) pieces a p = pieces_new size report xs (New x ∷ pieces) a.1 (a.0, p)
 
-pub has_new : (xs : List (List ℕ)) (pieces : List Got) → HasAnew pieces → HasAnew (with_new xs pieces)
-has_new [] pieces h = h
-has_new (x ∷ xs) pieces h = has_new xs (New x ∷ pieces) h
-
 may_still : (xs : List (List ℕ)) (pieces before : List Got) → MayRepeat pieces before → MayRepeat (with_new xs pieces) before
-may_still xs pieces before (inl h) = inl (has_new xs pieces h)
-may_still xs pieces before (inr h) = inr h
+may_still [] pieces before h = h
+may_still (x ∷ xs) pieces before h = may_still xs (New x ∷ pieces) before h
+
+may_follow : (pieces before : List Got) → MayRepeat pieces before → MayFollow pieces before
+may_follow [] before h = tt
+may_follow (New packet ∷ rest) before h = h
+may_follow (Anew state ∷ rest) before h = tt
+may_follow (GivenUp ∷ rest) before h = tt
+may_follow (Known ∷ rest) before h = tt
 
 pub own : (size : ℕ) (report : List ℕ) (xs : List (List ℕ)) → ((x : List ℕ) → IsPacket x xs → IsPacket x (packets_of size report)) → ArePackets size report xs
 own size report [] k = tt
@@ -61,13 +63,13 @@ pub snoc-length : {A : Type 0} (xs : List A) (x : A) → length (xs ++ x ∷ [])
 snoc-length [] x = omega arith
 snoc-length (z ∷ xs) x = let e = snoc-length xs x in omega (arith, e)
 
-pub marked_carries : (state : Endpoint1) (old : Bool) (size : ℕ) (got : List Got) (sent : List Sent) → CarriesBy old size got sent
-    → CarriesBy old size (Anew state ∷ got) sent
-marked_carries state old size got [] c = c
-marked_carries state old size got (Changed ∷ earlier) c = marked_carries state true size got earlier c
-marked_carries state old size got (Reported r ∷ earlier) (inl c) = inl (Anew state ∷ c.0, c.1, c.2, ap (λ x. Anew state ∷ x) c.3, c.4, c.5, c.6, c.7)
-marked_carries state old size got (Reported r ∷ earlier) (inr c) =
-    inr (c.0, Anew state ∷ c.1, c.2, c.3, ap (λ x. Anew state ∷ x) c.4, c.5, c.6, c.7)
+pub marked_carries : (mark : Got) (old : Bool) (size : ℕ) (got : List Got) (sent : List Sent) → ((rest : List Got) → NothingCame rest → NothingCame (mark ∷ rest))
+    → CarriesBy old size got sent → CarriesBy old size (mark ∷ got) sent
+marked_carries mark old size got [] n c = n got c
+marked_carries mark old size got (Changed ∷ earlier) n c = marked_carries mark true size got earlier n c
+marked_carries mark old size got (Reported r ∷ earlier) n (inl c) = inl (mark ∷ c.0, c.1, c.2, ap (λ x. mark ∷ x) c.3, n c.0 c.4, c.5, c.6, c.7)
+marked_carries mark old size got (Reported r ∷ earlier) n (inr c) =
+    inr (c.0, mark ∷ c.1, c.2, c.3, ap (λ x. mark ∷ x) c.4, n c.1 c.5, c.6, c.7)
 
 -- what the host has, it has also where the protocol was set behind it
 pub any_carries : (size : ℕ) (got : List Got) (sent : List Sent) → Carries size got sent → CarriesBy true size got sent
@@ -108,7 +110,7 @@ pub newest_now : (sent : List Sent) → is_old sent ≡ false → newest sent �
 newest_now sent h1 = grind (arith, common_steps)
 
 pub whole : (size : ℕ) (report : List ℕ) (got pieces before : List Got) (earlier : List Sent) → got ≡ pieces ++ before → ArePieces size report pieces
-    → (pieces ≡ []) ⊎ MayRepeat pieces before → Carries size before earlier → Carries size (with_new (packets_of size report) got) (Reported report ∷ earlier)
+    → MayFollow pieces before → Carries size before earlier → Carries size (with_new (packets_of size report) got) (Reported report ∷ earlier)
 whole size report got pieces before earlier e a o k = inl ([], pieces, before, ap (λ x. with_new (packets_of size report) x) e, tt, a, o, k)
 
 -- behind other packets of the report
@@ -119,11 +121,11 @@ whole_behind size report xs got pieces before earlier x e a o k =
     let C : List Got → Type 0 = λ y. Carries size y (Reported report ∷ earlier) in
     subst C (sym (with_new-append xs (packets_of size report) got))
     (whole size report (with_new xs got) (with_new xs pieces) before earlier (ap (λ y. with_new xs y) e ∙ with_new-behind xs pieces before)
-    (pieces_new size report xs pieces x a) (inr (may_still xs pieces before o)) k)
+    (pieces_new size report xs pieces x a) (may_follow (with_new xs pieces) before (may_still xs pieces before o)) k)
 
 -- what is to be handed over brings the report whole, once more where the toggles may differ
 pub will : (unsure a : Bool) (size : ℕ) (report : List ℕ) (got pieces before : List Got) (earlier : List Sent) → got ≡ pieces ++ before
-    → ArePieces size report pieces → (pieces ≡ []) ⊎ MayRepeat pieces before → (unsure ≡ true → MayRepeat pieces before) → (unsure ≡ false → a ≡ true)
+    → ArePieces size report pieces → MayFollow pieces before → (unsure ≡ true → MayRepeat pieces before) → (unsure ≡ false → a ≡ true)
     → Carries size before earlier
     → Carries size (with_new (new_of a (packets_of size report ++ copies unsure (packets_of size report))) got) (Reported report ∷ earlier)
 will false true size report got pieces before earlier e p o u s k =

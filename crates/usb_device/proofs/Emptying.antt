@@ -1,6 +1,6 @@
 -- What keeps the link of endpoint 1 where the buffers are emptied.
 use Rattle.std.proofs.lemmas.Grind.{common_steps}
-use Rattle.std.proofs.Common.{◌≡◌, ℕ, Bool, true, false, not, List, [], ◌∷◌, ◌++◌, length, ◌-◌, ◌&&◌, ◌<◌, ◌≤◌, refl, sym, ap, subst, ◌∙◌, inl, inr, nat_lt, arith}
+use Rattle.std.proofs.Common.{◌≡◌, ℕ, Bool, true, false, not, List, [], ◌∷◌, ◌++◌, length, ◌-◌, ◌&&◌, ◌<◌, ◌≤◌, refl, sym, ap, subst, ◌∙◌, nat_lt, arith}
 use Rattle.usb_device.specs.declared.report_buffers.Course.{Course}
 use Rattle.usb_device.specs.declared.report_buffers.Course.TheVariants.{Rests, Begins, Goes}
 use Rattle.usb_device.specs.Calls.{EpCall}
@@ -35,7 +35,7 @@ pub anew_now : (course : Course) (s : ReportState) (left : ℕ) (state : Endpoin
 unfolding anew_course set_anew anew_begun
 anew_now Rests s left state b calls k h = record {
   free = record { empty = refl; reported = refl; agrees = (refl, refl) };
-  carried = marked_carries state false s.size b.got (sent_of calls) h.carried;
+  carried = marked_carries (Anew state) false s.size b.got (sent_of calls) (λ r n. n) h.carried;
   marked = λ _. tt;
 }
 anew_now Begins s left state b calls k h = record {
@@ -43,16 +43,16 @@ anew_now Begins s left state b calls k h = record {
   earlier = h.earlier;
   sent = h.sent;
   begun = anew_begun state s.size s.report b.got h.earlier h.begun;
-  once = inr (inl tt);
-  marked = λ _. inl tt;
+  once = tt;
+  marked = λ _. tt;
 }
 anew_now Goes s left state b calls k h = record {
   free = record { empty = refl; reported = refl; agrees = (refl, refl) };
   earlier = h.earlier;
   sent = sym (newest_now (sent_of calls) (h.old ∙ k refl)) ∙ h.sent;
   begun = anew_begun state s.size s.report b.got h.earlier h.begun;
-  once = inr (inl tt);
-  marked = λ _. inl tt;
+  once = tt;
+  marked = λ _. tt;
 }
 
 pub anew_by : (reset : Bool) (s : ReportState) (left : ℕ) (state : Endpoint1) (b : Bus1) (calls : List EpCall) → (s.course ≡ Goes → s.old ≡ false)
@@ -113,7 +113,7 @@ given_up_now Begins s b calls later k o n h = record {
   marked = λ _. tt;
 }
 given_up_now Goes s b calls later k o n h = record {
-  free = record { empty = refl; reported = refl; agrees = λ x. absurd (true_false (sym x ∙ h.closed)) };
+  free = record { empty = refl; reported = refl; agrees = h.closed };
   carried = gives_up s.size s.report (sent_of later) h.earlier b.got h.begun (o (λ _. h.old)) (n ∙ h.sent);
   marked = λ _. tt;
 }

@@ -1,21 +1,25 @@
 -- What keeps a device with its layer and its buffers in step.
 use Rattle.std.proofs.lemmas.Grind.{common_steps}
 use Rattle.std.proofs.Common.{arith}
-use Rattle.std.proofs.Common.{◌≡◌, inl, inr, ℕ, Bool, true, false, List, [], ◌∷◌, refl, sym, ap, subst, ◌∙◌}
+use Rattle.std.proofs.Common.{◌≡◌, inl, inr, ℕ, Bool, true, false, List, [], ◌∷◌, Option, Some, None, refl, sym, ap, subst, ◌∙◌}
 use Rattle.usb_device.specs.declared.answer.Endpoint1.{Endpoint1}
+use Rattle.usb_device.specs.declared.answer.Change.{Change}
+use Rattle.usb_device.specs.declared.answer.Change.TheVariants.{Address, Endpoint, Wakeup}
 use Rattle.usb_device.specs.declared.answer.EpAnswer.TheVariants.{Ack, Nak, Packet, Stall}
 use Rattle.usb_device.specs.Calls.{EpCall, SetUp, Out, In, Polled, BusReset}
 use Rattle.usb_device.specs.Bus.{Seen}
 use Rattle.usb_device.specs.Confirmed.{asked_of, taken_of, ConfirmedBefore}
-use Rattle.usb_device.specs.Events.{Event, SuspendCame, ResumeCame, WakeAsked}
+use Rattle.usb_device.specs.Given.{given_of, WereGiven}
+use Rattle.usb_device.specs.Events.{Event, SuspendCame, ResumeCame, WakeAsked, StatusSeen, ScanCame}
 use Rattle.usb_device.specs.Requests.{Lent}
-use Rattle.usb_device.specs.Steps.{session}
+use Rattle.usb_device.specs.Steps.{LayerState, session, state_of, renewed_then}
+use Rattle.usb_device.specs.representation.Relation.{Refines}
 use Rattle.usb_device.specs.Through.{calls_of}
-use Rattle.usb_device.specs.representation.Layered.{PolledOnce}
-use Rattle.usb_device.specs.Bus1.{Bus1, Happens1, host_begins, Goes1, reported, unless_reset, filled, given_up, anew, begun_if, with_host_anew, no_polls}
-use Rattle.usb_device.specs.representation.Link1.{ReportState, Link1, InStep}
+use Rattle.usb_device.specs.representation.Layered.{PolledOnce, endpoint_set}
+use Rattle.usb_device.specs.Bus1.{Bus1, Got, New, Anew, GivenUp, Known, Happens1, takes, loses, host_begins, resets1, Goes1, agree, received, reported, unless_reset, filled, given_up, anew, known_if, no_polls, marks, states_reported, IsKnown}
+use Rattle.usb_device.specs.representation.Link1.{InStep, KeepsMarks, KeepsStates}
 use Rattle.usb_device.proofs.Linked.{takes_as}
-use Rattle.usb_device.proofs.Reporting.{step1, goes1}
+use Rattle.usb_device.proofs.Standing.{were_now}
 
 in_step1 : (states : List Endpoint1) (b next : Bus1) → Happens1 b next → InStep states b → InStep states next
 in_step1 states b next h1 h2 = grind (arith, common_steps)
@@ -28,20 +32,6 @@ unless_in_step : (reset : Bool) (states others : List Endpoint1) (b other : Bus1
     → InStep others (unless_reset reset b other)
 unless_in_step reset states others b other h1 h2 h3 = grind (arith, common_steps)
 
-pub filled_in_step : (steps : List Bus1) (states : List Endpoint1) (b mid new : Bus1) (packet : List ℕ) → Goes1 steps b mid → new ≡ filled mid packet
-    → InStep states b → InStep states new
-filled_in_step steps states b mid new packet g e h =
-    let P : Bus1 → Type 0 = λ x. InStep states x in
-    let m = goes_in_step steps states b mid g h in
-    subst P (sym e) (unless_in_step mid.reset states states mid _ refl m (λ _. m))
-
-pub given_up_in_step : (steps : List Bus1) (states : List Endpoint1) (b mid new : Bus1) → Goes1 steps b mid → new ≡ given_up mid
-    → InStep states b → InStep states new
-given_up_in_step steps states b mid new g e h =
-    let P : Bus1 → Type 0 = λ x. InStep states x in
-    let m = goes_in_step steps states b mid g h in
-    subst P (sym e) (unless_in_step mid.reset states states mid _ refl m (λ _. m))
-
 pub reported_in_step : (steps : List Bus1) (states : List Endpoint1) (b mid new : Bus1) → Goes1 steps b mid → new ≡ reported mid → InStep states b → InStep states new
 reported_in_step steps states b mid new g e h =
     let P : Bus1 → Type 0 = λ x. InStep states x in subst P (sym e) (goes_in_step steps states b mid g h)
@@ -53,28 +43,122 @@ anew_in_step steps states state b mid new g e h =
     let m = goes_in_step steps states b mid g h in
     subst P (sym e) (unless_in_step mid.reset states (state ∷ states) mid _ refl m (λ f r. ap (λ x. state ∷ x) (m r)))
 
-begun_in_step : (opened : Bool) (states : List Endpoint1) (b : Bus1) → InStep states b → InStep states (begun_if opened b)
-begun_in_step opened states b h1 = grind (arith, common_steps)
+anew_by_opened : (reset : Bool) (b other : Bus1) → b.reset ≡ reset → other.opened ≡ true → (unless_reset reset b other).reset ≡ false
+    → (unless_reset reset b other).opened ≡ true
+anew_by_opened true b other e o r = absurd (let x : true ≡ false = sym e ∙ r in cc)
+anew_by_opened false b other e o r = o
 
-pub began_in_step : (steps : List Bus1) (states : List Endpoint1) (b mid new : Bus1) → Goes1 steps b mid → new ≡ begun_if mid.opened mid
+pub anew_opened : (mid new : Bus1) (state : Endpoint1) → new ≡ anew mid state → new.reset ≡ false → new.opened ≡ true
+anew_opened mid new state e =
+    let P : Bus1 → Type 0 = λ x. x.reset ≡ false → x.opened ≡ true in subst P (sym e) (anew_by_opened mid.reset mid _ refl refl)
+
+known_in_step : (opened : Bool) (states : List Endpoint1) (b : Bus1) → InStep states b → InStep states (known_if opened b)
+known_in_step opened states b h1 = grind (arith, common_steps)
+
+pub agreed_in_step : (steps : List Bus1) (states : List Endpoint1) (b mid new : Bus1) → Goes1 steps b mid → new ≡ known_if mid.opened mid
     → InStep states b → InStep states new
-began_in_step steps states b mid new g e h =
-    let P : Bus1 → Type 0 = λ x. InStep states x in subst P (sym e) (begun_in_step mid.opened states mid (goes_in_step steps states b mid g h))
+agreed_in_step steps states b mid new g e h =
+    let P : Bus1 → Type 0 = λ x. InStep states x in subst P (sym e) (known_in_step mid.opened states mid (goes_in_step steps states b mid g h))
 
-begun_link : (opened : Bool) (s : ReportState) (b : Bus1) (calls : List EpCall) → b.opened ≡ opened → Link1 s b calls → Link1 s (begun_if opened b) calls
-begun_link true s b calls o h = step1 s b (with_host_anew b) calls (host_begins o refl) h
-begun_link false s b calls o h = h
+keeps_step : (b next : Bus1) → Happens1 b next → KeepsStates b next
+keeps_step b next h1 h2 = grind (arith, common_steps)
 
-pub began_link : (steps : List Bus1) (s : ReportState) (b mid new : Bus1) (calls : List EpCall) → Goes1 steps b mid → new ≡ begun_if mid.opened mid
-    → Link1 s b calls → Link1 s new calls
-began_link steps s b mid new calls g e h =
-    let P : Bus1 → Type 0 = λ x. Link1 s x calls in subst P (sym e) (begun_link mid.opened s mid calls refl (goes1 steps s b mid calls g h))
+pub keeps_then : (b mid new : Bus1) → KeepsStates b mid → KeepsStates mid new → KeepsStates b new
+keeps_then b mid new k m r = let y = m r in let x = k y.0 in (x.0, y.1 ∙ x.1, λ o. y.2 (x.2 o))
 
-begun_host : (opened : Bool) (b : Bus1) → b.opened ≡ opened → (begun_if opened b).opened ≡ true → (begun_if opened b).host ≡ false
-begun_host opened b h1 h2 = grind (arith, common_steps)
+pub keeps_goes : (steps : List Bus1) (b next : Bus1) → Goes1 steps b next → KeepsStates b next
+keeps_goes [] b next e = let P : Bus1 → Type 0 = λ x. KeepsStates b x in subst P (sym e) (λ r. (r, refl, λ o. o))
+keeps_goes (mid ∷ rest) b next g = keeps_then b mid next (keeps_step b mid g.0) (keeps_goes rest mid next g.1)
 
-pub began_host : (mid new : Bus1) → new ≡ begun_if mid.opened mid → new.opened ≡ true → new.host ≡ false
-began_host mid new e = let P : Bus1 → Type 0 = λ x. x.opened ≡ true → x.host ≡ false in subst P (sym e) (begun_host mid.opened mid refl)
+keeps_unless : (reset : Bool) (b other : Bus1) → KeepsStates b other → KeepsStates b (unless_reset reset b other)
+keeps_unless true b other k = λ r. (r, refl, λ o. o)
+keeps_unless false b other k = k
+
+pub given_up_keeps : (steps : List Bus1) (b mid new : Bus1) → Goes1 steps b mid → new ≡ given_up mid → KeepsStates b new
+given_up_keeps steps b mid new g e =
+    let P : Bus1 → Type 0 = λ x. KeepsStates mid x in
+    keeps_then b mid new (keeps_goes steps b mid g) (subst P (sym e) (keeps_unless mid.reset mid _ (λ r. (r, refl, λ o. o))))
+
+pub reported_keeps : (steps : List Bus1) (b mid new : Bus1) → Goes1 steps b mid → new ≡ reported mid → KeepsStates b new
+reported_keeps steps b mid new g e =
+    let P : Bus1 → Type 0 = λ x. KeepsStates mid x in
+    keeps_then b mid new (keeps_goes steps b mid g) (subst P (sym e) (λ r. (r, refl, λ o. o)))
+
+pub states_in_step : (states : List Endpoint1) (b new : Bus1) → KeepsStates b new → InStep states b → InStep states new
+states_in_step states b new k h r = let m = k r in m.1 ∙ h m.0
+
+pub opened_then : (change : Option Change) (renewed : Bool) (b mid new : Bus1) → (endpoint_set change ≡ None → mid ≡ b)
+    → ((state : Endpoint1) → endpoint_set change ≡ Some state → mid.reset ≡ false → mid.opened ≡ true) → KeepsStates mid new
+    → (renewed ≡ true → b.reset ≡ false → b.opened ≡ true) → renewed_then renewed change ≡ true → new.reset ≡ false → new.opened ≡ true
+opened_then (Some (Endpoint state)) renewed b mid new n s k h e r = let m = k r in m.2 (s state refl m.0)
+opened_then (Some (Address address)) renewed b mid new n s k h e r =
+    let P : Bus1 → Type 0 = λ x. KeepsStates x new in let m = (subst P (n refl) k) r in m.2 (h e m.0)
+opened_then (Some (Wakeup on)) renewed b mid new n s k h e r =
+    let P : Bus1 → Type 0 = λ x. KeepsStates x new in let m = (subst P (n refl) k) r in m.2 (h e m.0)
+opened_then None renewed b mid new n s k h e r =
+    let P : Bus1 → Type 0 = λ x. KeepsStates x new in let m = (subst P (n refl) k) r in m.2 (h e m.0)
+
+-- what came beside packets
+states_marks : (got : List Got) → states_reported (marks got) ≡ states_reported got
+states_marks [] = refl
+states_marks (New packet ∷ before) = states_marks before
+states_marks (Anew state ∷ before) = ap (λ x. state ∷ x) (states_marks before)
+states_marks (GivenUp ∷ before) = states_marks before
+states_marks (Known ∷ before) = states_marks before
+
+pub marks_in_step : (states : List Endpoint1) (b new : Bus1) → KeepsMarks b new → InStep states b → InStep states new
+marks_in_step states b new k h r =
+    let m = k r in sym (states_marks new.got) ∙ ap (λ x. states_reported x) m.1 ∙ states_marks b.got ∙ h m.0
+
+pub marks_then : (b mid new : Bus1) → KeepsMarks b mid → KeepsMarks mid new → KeepsMarks b new
+marks_then b mid new k m r = let y = m r in let x = k y.0 in (x.0, y.1 ∙ x.1)
+
+marks_received : (a : Bool) (packet : List ℕ) (got : List Got) → marks (received a packet got) ≡ marks got
+marks_received true packet got = refl
+marks_received false packet got = refl
+
+marks_step1 : (b next : Bus1) → Happens1 b next → KeepsMarks b next
+marks_step1 b next (takes packet rest i e) = λ r. (sym (ap (λ (x : Bus1). x.reset) e) ∙ r, ap (λ (x : Bus1). marks x.got) e ∙ marks_received (agree b) packet b.got)
+marks_step1 b next (loses packet rest i e) = λ r. (sym (ap (λ (x : Bus1). x.reset) e) ∙ r, ap (λ (x : Bus1). marks x.got) e ∙ marks_received (agree b) packet b.got)
+marks_step1 b next (host_begins o e) = λ r. (sym (ap (λ (x : Bus1). x.reset) e) ∙ r, ap (λ (x : Bus1). marks x.got) e)
+marks_step1 b next (resets1 e) = λ r. absurd (let x : true ≡ false = sym (ap (λ (y : Bus1). y.reset) e) ∙ r in cc)
+
+pub goes_marks : (steps : List Bus1) (b next : Bus1) → Goes1 steps b next → KeepsMarks b next
+goes_marks [] b next e = λ r. (sym (ap (λ (x : Bus1). x.reset) e) ∙ r, ap (λ (x : Bus1). marks x.got) e)
+goes_marks (mid ∷ rest) b next g = marks_then b mid next (marks_step1 b mid g.0) (goes_marks rest mid next g.1)
+
+filled_by_marks : (reset : Bool) (b other : Bus1) → other.reset ≡ b.reset → other.got ≡ b.got → KeepsMarks b (unless_reset reset b other)
+filled_by_marks true b other e f = λ r. (r, refl)
+filled_by_marks false b other e f = λ r. (sym e ∙ r, ap (λ x. marks x) f)
+
+pub filled_marks : (steps : List Bus1) (b mid new : Bus1) (packet : List ℕ) → Goes1 steps b mid → new ≡ filled mid packet → KeepsMarks b new
+filled_marks steps b mid new packet g e =
+    let P : Bus1 → Type 0 = λ x. KeepsMarks mid x in
+    marks_then b mid new (goes_marks steps b mid g) (subst P (sym e) (filled_by_marks mid.reset mid _ refl refl))
+
+pub reported_marks : (steps : List Bus1) (b mid new : Bus1) → Goes1 steps b mid → new ≡ reported mid → KeepsMarks b new
+reported_marks steps b mid new g e =
+    let P : Bus1 → Type 0 = λ x. KeepsMarks mid x in
+    marks_then b mid new (goes_marks steps b mid g) (subst P (sym e) (λ r. (r, refl)))
+
+pub marks_known : (b new : Bus1) → KeepsMarks b new → (b.reset ≡ false → IsKnown b.got) → new.reset ≡ false → IsKnown new.got
+marks_known b new k h r = let m = k r in let y = h m.0 in (y.0, m.1 ∙ y.1)
+
+known_by : (opened : Bool) (b : Bus1) → opened ≡ true → IsKnown (known_if opened b).got
+known_by true b o = (marks b.got, refl)
+known_by false b o = absurd (let x : false ≡ true = o in cc)
+
+reset_by : (opened : Bool) (b : Bus1) → (known_if opened b).reset ≡ b.reset
+reset_by true b = refl
+reset_by false b = refl
+
+pub agreed_known : (steps : List Bus1) (b mid new : Bus1) → Goes1 steps b mid → new ≡ known_if mid.opened mid
+    → (b.reset ≡ false → b.opened ≡ true) → new.reset ≡ false → IsKnown new.got
+agreed_known steps b mid new g e o r =
+    let P : Bus1 → Type 0 = λ x. IsKnown x.got in
+    let mine = sym (reset_by mid.opened mid) ∙ sym (ap (λ (x : Bus1). x.reset) e) ∙ r in
+    let k = keeps_goes steps b mid g mine in
+    subst P (sym e) (known_by mid.opened mid (k.2 (o k.0)))
 
 -- suspend, resume and wakeup are nothing to the device behind
 pub suspend_session : (lent : Lent) (past : List Event) → session lent (SuspendCame ∷ past) ≡ session lent past
@@ -88,6 +172,23 @@ resume_session lent past = refl
 pub wake_session : (lent : Lent) (past : List Event) (has_report answer : Bool) → session lent (WakeAsked has_report answer ∷ past) ≡ session lent past
 unfolding session
 wake_session lent past has_report answer = refl
+
+-- nor is it to the layer that the host has a status packet, or that a scan comes
+pub seen_session : (lent : Lent) (past : List Event) → session lent (StatusSeen ∷ past) ≡ session lent past
+unfolding session
+seen_session lent past = refl
+
+pub scan_session : (lent : Lent) (past : List Event) → session lent (ScanCame ∷ past) ≡ session lent past
+unfolding session
+scan_session lent past = refl
+
+pub seen_refines : (lent : Lent) (past : List Event) (layer : LayerState) → Refines lent past layer → Refines lent (StatusSeen ∷ past) layer
+unfolding state_of
+seen_refines lent past layer h = record { answered = (tt, h.answered); state = h.state }
+
+pub scan_refines : (lent : Lent) (past : List Event) (layer : LayerState) → Refines lent past layer → Refines lent (ScanCame ∷ past) layer
+unfolding state_of
+scan_refines lent past layer h = record { answered = (tt, h.answered); state = h.state }
 
 -- a poll is nothing to endpoint 0
 pub polled_once : (past later : List Event) → PolledOnce past later → no_polls (calls_of later) ≡ no_polls (calls_of past)
@@ -143,3 +244,40 @@ confirmed_from sent s d (BusReset ∷ before) (inr w) = inr (tt, confirmed_from 
 pub confirmed_same : (sent : List Seen) (s d : List ℕ) (calls others : List EpCall) → no_polls others ≡ no_polls calls → ConfirmedBefore sent s d calls → ConfirmedBefore sent s d others
 confirmed_same sent s d calls others e w =
     let P : List EpCall → Type 0 = λ x. ConfirmedBefore sent s d x in confirmed_from sent s d others (subst P (sym e) (confirmed_to sent s d calls w))
+
+pub given_same : (calls : List EpCall) → given_of (no_polls calls) ≡ given_of calls
+given_same [] = refl
+given_same (SetUp bytes ∷ before) = refl
+given_same (Out packet answer ∷ before) = given_same before
+given_same (In Ack ∷ before) = given_same before
+given_same (In Nak ∷ before) = given_same before
+given_same (In (Packet packet) ∷ before) = ap (λ x. packet.items ∷ x) (given_same before)
+given_same (In Stall ∷ before) = given_same before
+given_same (Polled answer ∷ before) = given_same before
+given_same (BusReset ∷ before) = refl
+
+were_to : (setup : List ℕ) (packets : List (List ℕ)) (calls : List EpCall) → WereGiven setup packets calls → WereGiven setup packets (no_polls calls)
+were_to setup packets [] w = w
+were_to setup packets (call ∷ before) (inl e) =
+    were_now setup packets (no_polls (call ∷ before)) (asked_same (call ∷ before) ∙ e.0) (given_same (call ∷ before) ∙ e.1)
+were_to setup packets (SetUp bytes ∷ before) (inr w) = inr (were_to setup packets before w)
+were_to setup packets (Out packet answer ∷ before) (inr w) = inr (were_to setup packets before w)
+were_to setup packets (In answer ∷ before) (inr w) = inr (were_to setup packets before w)
+were_to setup packets (Polled answer ∷ before) (inr w) = were_to setup packets before w
+were_to setup packets (BusReset ∷ before) (inr w) = inr (were_to setup packets before w)
+
+were_from : (setup : List ℕ) (packets : List (List ℕ)) (calls : List EpCall) → WereGiven setup packets (no_polls calls) → WereGiven setup packets calls
+were_from setup packets [] w = w
+were_from setup packets (Polled answer ∷ before) w = inr (were_from setup packets before w)
+were_from setup packets (SetUp bytes ∷ before) (inl e) = inl e
+were_from setup packets (SetUp bytes ∷ before) (inr w) = inr (were_from setup packets before w)
+were_from setup packets (Out packet answer ∷ before) (inl e) = inl (sym (asked_same before) ∙ e.0, sym (given_same before) ∙ e.1)
+were_from setup packets (Out packet answer ∷ before) (inr w) = inr (were_from setup packets before w)
+were_from setup packets (In answer ∷ before) (inl e) = inl (sym (asked_same before) ∙ e.0, sym (given_same (In answer ∷ before)) ∙ e.1)
+were_from setup packets (In answer ∷ before) (inr w) = inr (were_from setup packets before w)
+were_from setup packets (BusReset ∷ before) (inl e) = inl e
+were_from setup packets (BusReset ∷ before) (inr w) = inr (were_from setup packets before w)
+
+pub were_given : (setup : List ℕ) (packets : List (List ℕ)) (calls others : List EpCall) → no_polls others ≡ no_polls calls → WereGiven setup packets calls → WereGiven setup packets others
+were_given setup packets calls others e w =
+    let P : List EpCall → Type 0 = λ x. WereGiven setup packets x in were_from setup packets others (subst P (sym e) (were_to setup packets calls w))

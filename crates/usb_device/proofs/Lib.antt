@@ -1,7 +1,9 @@
 pub mod Next
+pub mod Standing
 pub mod Linked
 pub mod Moving
 mod Addressing
+mod Answering
 mod Looking
 pub mod Resting
 pub mod Behind
@@ -12,8 +14,8 @@ pub mod Emptying
 pub mod Handing
 pub mod Characters
 pub mod Places
-pub mod Scans
 pub mod Layering
+pub mod Bringing
 mod Pausing
 pub mod Wholes
 pub mod Receiving

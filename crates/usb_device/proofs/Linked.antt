@@ -7,7 +7,9 @@ use Rattle.usb_device.specs.Calls.{EpCall, Out}
 use Rattle.usb_device.specs.Bus.{Bus, Seen, SetupSent, OutTaken, InGot, WasStalled, WasReset, Naks, Sends, NaksOut, Takes, nothing_met, Happens, sets_up, takes_in, loses_ack, brings_out, stalls, resets, Goes, is_pending, is_out, is_write, setup_of, write_of, has_ended, got, with_taken, with_ack_lost, with_out, with_stall, first_out}
 use Rattle.usb_device.specs.Confirmed.{asked_of, WasSent, TakesOnly, ConfirmedBefore, AllKept, three_writes, last_is_lost}
 use Rattle.usb_device.specs.Transfers.{TransferState, Idle}
+use Rattle.usb_device.specs.Given.{got_of, given_of, Hands, AllGiven}
 use Rattle.usb_device.specs.representation.Link.{StageLink, Link}
+use Rattle.usb_device.proofs.Standing.{given_other, got_given, hands_taken, hands_lost, stands_taken, stands_lost, stands_out, stands_stall}
 
 or_true : (x : Bool) → (x || true) ≡ false → ⊥
 or_true x h1 = grind (arith, common_steps)
@@ -54,6 +56,12 @@ got_kept t b calls (x ∷ xs) false h e = kept_other (InGot (x ∷ xs)) b.seen c
 got_kept t b calls [] false h e =
     kept_more (InGot []) b.seen calls h.kept (λ s d n es ew ed. confirms_by (is_pending b.met) t b calls false s d refl h e es ew ed)
 
+got_link : (t : TransferState) (b : Bus) (calls : List EpCall) (packet : List ℕ) (has pending : Bool) → is_pending b.met ≡ pending → Link t b calls → b.input ≡ Sends packet has
+    → AllGiven (got packet has b.seen) calls
+got_link t b calls packet has true p h i = absurd (let y : Sends packet has ≡ Naks = sym i ∙ (h.fresh p).input in cc)
+got_link t b calls packet has false p h i =
+    let c = h.current p in got_given has packet b calls h.given c.setup (subst (λ y. Hands y (got_of b.seen) (given_of calls)) i c.hands)
+
 setup_got : (packet : List ℕ) (has : Bool) (b : Bus) → setup_of (got packet has b.seen) ≡ setup_of b.seen
 setup_got packet has b = grind (arith, common_steps)
 
@@ -76,54 +84,68 @@ step t b next calls (sets_up bytes e) h =
     let P : Bus → Type 0 = λ x. Link t x calls in
     subst P (sym e) (record {
       kept = kept_other (SetupSent bytes) b.seen calls (λ n. cc) h.kept;
-      fresh = λ p. record { input = refl; output = refl; setup = refl; write = refl; ended = refl };
+      given = given_other (SetupSent bytes) b.seen calls (λ p n. cc) h.given;
+      fresh = λ p. record { input = refl; output = refl; setup = refl; write = refl; ended = refl; got = refl; outs = refl };
       current = λ p. absurd (or_true b.met.reset p);
     })
 step t b next calls (takes_in packet has i e) h =
     let P : Bus → Type 0 = λ x. Link t x calls in
     subst P (sym e) (record {
       kept = got_kept t b calls packet has h i;
+      given = got_link t b calls packet has (is_pending b.met) refl h i;
       fresh = λ p. let f = h.fresh p in cc;
       current = λ p. let c = h.current p in record {
         setup = setup_got packet has b ∙ c.setup;
         stage = λ s es ew. taken_stage t b calls packet has i (c.stage s (sym (setup_got packet has b) ∙ es) ew);
-        none = λ s es eo ew. c.none s (sym (setup_got packet has b) ∙ es) eo ew;
+        hands = hands_taken has packet b.seen (given_of calls) (subst (λ y. Hands y (got_of b.seen) (given_of calls)) i c.hands);
+        stands = stands_taken t b calls packet has i c.stands;
       };
     })
 step t b next calls (loses_ack packet has i e) h =
     let P : Bus → Type 0 = λ x. Link t x calls in
     subst P (sym e) (record {
       kept = got_kept t b calls packet has h i;
+      given = got_link t b calls packet has (is_pending b.met) refl h i;
       fresh = λ p. let f = h.fresh p in cc;
       current = λ p. let c = h.current p in record {
         setup = setup_got packet has b ∙ c.setup;
         stage = λ s es ew. lost_stage t b calls packet has i (c.stage s (sym (setup_got packet has b) ∙ es) ew);
-        none = λ s es eo ew. c.none s (sym (setup_got packet has b) ∙ es) eo ew;
+        hands = hands_lost has packet b.seen (given_of calls) (subst (λ y. Hands y (got_of b.seen) (given_of calls)) i c.hands);
+        stands = stands_lost t b calls packet has i c.stands;
       };
     })
 step t b next calls (brings_out packet o e) h =
     let P : Bus → Type 0 = λ x. Link t x calls in
     subst P (sym e) (record {
       kept = kept_other (OutTaken packet) b.seen calls (λ n. cc) h.kept;
+      given = given_other (OutTaken packet) b.seen calls (λ p n. cc) h.given;
       fresh = λ p. let f = h.fresh p in cc;
       current = λ p. let c = h.current p in record {
         setup = c.setup;
         stage = λ s es ew. out_stage t b calls packet o (c.stage s es ew);
-        none = c.none;
+        hands = c.hands;
+        stands = stands_out t b calls packet o c.stands;
       };
     })
 step t b next calls (stalls e) h =
     let P : Bus → Type 0 = λ x. Link t x calls in
     subst P (sym e) (record {
       kept = kept_other WasStalled b.seen calls (λ n. cc) h.kept;
-      fresh = λ p. let f = h.fresh p in record { input = f.input; output = f.output; setup = f.setup; write = f.write; ended = f.ended };
-      current = λ p. let c = h.current p in record { setup = c.setup; stage = λ s es ew. stall_stage t b calls (c.stage s es ew); none = c.none };
+      given = given_other WasStalled b.seen calls (λ p n. cc) h.given;
+      fresh = λ p. let f = h.fresh p in record { input = f.input; output = f.output; setup = f.setup; write = f.write; ended = f.ended; got = f.got; outs = f.outs };
+      current = λ p. let c = h.current p in record {
+        setup = c.setup;
+        stage = λ s es ew. stall_stage t b calls (c.stage s es ew);
+        hands = c.hands;
+        stands = stands_stall t b calls c.stands;
+      };
     })
 step t b next calls (resets e) h =
     let P : Bus → Type 0 = λ x. Link t x calls in
     subst P (sym e) (record {
       kept = kept_other WasReset b.seen calls (λ n. cc) h.kept;
-      fresh = λ p. record { input = refl; output = refl; setup = refl; write = refl; ended = refl };
+      given = given_other WasReset b.seen calls (λ p n. cc) h.given;
+      fresh = λ p. record { input = refl; output = refl; setup = refl; write = refl; ended = refl; got = refl; outs = refl };
       current = λ p. absurd (or_false p);
     })
 
@@ -132,15 +154,16 @@ goes [] t b next calls e h = let P : Bus → Type 0 = λ x. Link t x calls in su
 goes (mid ∷ rest) t b next calls g h = goes rest t mid next calls g.1 (step t b mid calls g.0 h)
 
 -- where it begins
-none_met : (after before : List Seen) → [] ≡ after ++ (InGot [] ∷ before) → ⊥
-none_met [] before e = cc
-none_met (x ∷ after) before e = cc
+none_met : (after before : List Seen) (packet : List ℕ) → [] ≡ after ++ (InGot packet ∷ before) → ⊥
+none_met [] before packet e = cc
+none_met (x ∷ after) before packet e = cc
 
 pub starts : Link Idle (record { seen = []; input = Naks; output = NaksOut; met = nothing_met }) []
 starts = record {
-  kept = λ after before s d e es ew ed. absurd (none_met after before e);
+  kept = λ after before s d e es ew ed. absurd (none_met after before [] e);
+  given = λ after before s p e es. absurd (none_met after before p e);
   fresh = λ p. absurd (or_false (sym p));
-  current = λ p. record { setup = refl; stage = λ s es ew. tt; none = λ s es eo ew. tt };
+  current = λ p. record { setup = refl; stage = λ s es ew. tt; hands = refl; stands = inl (refl, refl, refl, refl) };
 }
 
 -- what the host sent in its transfer since it got an empty packet

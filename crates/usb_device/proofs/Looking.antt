@@ -3,10 +3,12 @@ use Rattle.std.proofs.Common.{◌≡◌, ℕ, Bool, true, false, List, [], ◌�
 use Rattle.usb_device.specs.Calls.{EpCall, SetUp, Out, In, Polled, BusReset}
 use Rattle.usb_device.specs.Bus.{Bus, Met, Seen, SetupSent, OutTaken, InGot, WasStalled, WasReset, InMode, OutMode, Happens, sets_up, takes_in, loses_ack, brings_out, stalls, resets, Goes, got, is_pending, unless_pending, with_input, with_output}
 use Rattle.usb_device.specs.Bus1.{beside, KeptUnless}
-use Rattle.usb_device.specs.Transfers.{TransferState, Idle, Refused, Over, Reads, ReadDue, Sent, Closing, Closed, Opening, Writes, Keeps, Asking, Due, Status, Done, last_0}
-use Rattle.usb_device.specs.Served.{Grows, reset_if, set_up_if, handed_on, AreAsked, Asks, PutOff, AsksNow}
+use Rattle.usb_device.specs.Transfers.{TransferState, Idle, Refused, Over, Reads, ReadDue, Sent, Closing, Closed, Opening, Writes, Keeps, Asking, Due, Status, Done, NothingWithheld0, last_0}
+use Rattle.usb_device.specs.Served.{Grows, reset_if, set_up_if, handed_on, AreAsked, Looks}
+use Rattle.usb_device.specs.representation.Link.{Link, Asks, PutOff, AsksNow, LooksAs}
 use Rattle.usb_device.proofs.Addressing.{kept_further}
 use Rattle.usb_device.proofs.Moving.{behind_reset}
+use Rattle.usb_device.proofs.Answering.{answers}
 
 -- more came
 pub grows_none : (seen : List Seen) → Grows seen seen
@@ -125,3 +127,9 @@ reset_asks met calls e f = ([], sym (handed_by met None true calls e f), tt)
 
 pub still_asks : (met : Met) (calls later : List EpCall) → met.setup ≡ None → met.reset ≡ false → Asks calls later → Asks (handed_on met calls) later
 still_asks met calls later e f a = (a.0, a.1 ∙ ap (λ x. a.0 ++ x) (sym (handed_by met None false calls e f)), a.2)
+
+-- and the buffers answer so
+pub looks_as : (t : TransferState) (b mid new : Bus) (calls later : List EpCall) → LooksAs t b mid calls later → Grows mid.seen new.seen → Link t new later → NothingWithheld0 t new
+    → Looks b new calls later
+looks_as t b mid new calls later x g l n =
+    (x.0, x.1, x.4.0, x.2, grows_then x.1.seen mid.seen new.seen x.3 g, x.4.1, x.4.2, λ p. answers t new later x.4.0 p l (n p) x.4.3)

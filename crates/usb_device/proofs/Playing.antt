@@ -1,7 +1,7 @@
 -- What happens on the bus of buffers that a script plays.
 use Rattle.std.proofs.Common.{◌≡◌, ℕ, Bool, true, false, not, List, [], ◌∷◌, ◌++◌, Option, Some, refl, subst, ap, ◌∙◌}
-use Rattle.usb_device.specs.Bus1.{Bus1, Got, received, same, begun_if, takes, loses, host_begins, Happens1, Goes1}
-use Rattle.usb_device.specs.representation.Played.{Moved, slots_of, count_of_taken}
+use Rattle.usb_device.specs.Bus1.{Bus1, Got, received, same, takes, loses, host_begins, Happens1, Goes1}
+use Rattle.usb_device.specs.representation.Played.{Moved, begun_if, slots_of, count_of_taken}
 
 -- one thing more happens
 pub moved_then : (steps : List Bus1) (b mid next : Bus1) → Goes1 steps b mid → Happens1 mid next → Goes1 (steps ++ next ∷ []) b next

@@ -5,10 +5,10 @@ use Rattle.usb_device.specs.declared.report_buffers.Course.{Course}
 use Rattle.usb_device.specs.declared.report_buffers.Course.TheVariants.{Rests, Begins, Goes}
 use Rattle.usb_device.specs.Calls.{EpCall, SetUp, Polled}
 use Rattle.usb_device.specs.Confirmed.{asked_of}
-use Rattle.usb_device.specs.Bus1.{Got, Sent, Reported, sent_of, is_old, newest, sets_protocol, Bus1, blank, agree, received, with_taken1, with_lost1, with_host_anew, Happens1, takes, loses, host_begins, resets1, Goes1, reported}
-use Rattle.usb_device.specs.Reports.{cut, HasNew, packets_of, with_new, Carries, GotInOrder, all, but_one}
+use Rattle.usb_device.specs.Bus1.{Got, Known, Sent, Reported, sent_of, is_old, newest, sets_protocol, Bus1, blank, agree, received, with_taken1, with_lost1, with_host_anew, with_known, known_if, Happens1, takes, loses, host_begins, resets1, Goes1, reported}
+use Rattle.usb_device.specs.Reports.{cut, HasNew, packets_of, with_new, Begun, Carries, GotInOrder, all, but_one}
 use Rattle.usb_device.specs.representation.Link1.{core, ReportState, is_more, is_over, to_hand, copies, new_of, ArePackets, Agrees, Free, Resting, Beginning, Going, Now1, Link1}
-use Rattle.usb_device.proofs.Carrying.{true_false, newest_carries, received_has, received_begun, received_will, same_self, same_not}
+use Rattle.usb_device.proofs.Carrying.{true_false, marked_carries, newest_carries, received_has, received_begun, received_will, same_self, same_not}
 
 -- a packet is with the host
 pub taken_step : (s : ReportState) (b : Bus1) (calls : List EpCall) (packet : List ℕ) (rest : List (List ℕ)) → b.slots ≡ packet ∷ rest → Going s b calls
@@ -167,28 +167,68 @@ set_up s left protocol packet b calls e h =
       current = λ r. sent_now s.course (core s) b calls (SetUp packet ∷ calls) refl (h.current r);
     }
 
--- the host is known to have begun anew
-pub sure_agrees : (unsure lost : Bool) (b : Bus1) → lost ≡ false → (b.opened ≡ true → b.host ≡ false) → Agrees unsure lost b → Agrees false false b
-sure_agrees unsure lost b h1 h2 h3 = grind (arith, common_steps)
+-- the host is known to have begun anew. Where a report was lost it can't have, and the device stays unsure
+abbrev pub SureBy : Bool → Bool → Bool → Type 0
+SureBy unsure lost now = ((lost ≡ false) × (now ≡ false)) ⊎ ((lost ≡ true) × (now ≡ unsure))
 
-pub sure_free : (unsure lost : Bool) (b : Bus1) → lost ≡ false → (b.opened ≡ true → b.host ≡ false) → Free unsure lost b → Free false lost b
-sure_free unsure lost b l k f = record { empty = f.empty; reported = f.reported; agrees = sure_agrees unsure lost b l k f.agrees }
+known_agrees : (unsure lost now : Bool) (b : Bus1) → SureBy unsure lost now → b.opened ≡ true → Agrees unsure lost b → Agrees now lost (with_known b)
+known_agrees unsure lost now b h1 h2 h3 = grind (arith, common_steps)
 
-pub sure_now : (course : Course) (s : ReportState) (left : ℕ) (b : Bus1) (calls : List EpCall) → s.lost ≡ false → (b.opened ≡ true → b.host ≡ false) → Now1 course s b calls
-    → Now1 course (record s { unsure = false; left = left }) b calls
-sure_now Rests s left b calls l k h = record { free = sure_free s.unsure s.lost b l k h.free; carried = h.carried; marked = λ x. absurd (true_false (sym x)) }
-sure_now Begins s left b calls l k h = record {
-  free = sure_free s.unsure s.lost b l k h.free;
+known_now : (unsure lost now : Bool) (b : Bus1) → SureBy unsure lost now → b.opened ≡ true → Agrees unsure lost b → now ≡ false
+known_now unsure lost now b h1 h2 h3 = grind (arith, common_steps)
+
+closed_agrees : (unsure lost now : Bool) (b : Bus1) → SureBy unsure lost now → b.opened ≡ false → Agrees unsure lost b → Agrees now lost b
+closed_agrees unsure lost now b h1 h2 h3 = grind (arith, common_steps)
+
+still_unsure : (unsure lost now : Bool) → SureBy unsure lost now → now ≡ true → unsure ≡ true
+still_unsure unsure lost now h1 h2 = grind (arith, common_steps)
+
+still_sure : (unsure lost now : Bool) → SureBy unsure lost now → unsure ≡ false → now ≡ false
+still_sure unsure lost now h1 h2 = grind (arith, common_steps)
+
+known_begun : (size : ℕ) (report : List ℕ) (got : List Got) (earlier : List Sent) → Begun size report got earlier → Begun size report (Known ∷ got) earlier
+known_begun size report got earlier b = record {
+  pieces = Known ∷ b.pieces;
+  before = b.before;
+  got_is = ap (λ x. Known ∷ x) b.got_is;
+  are = b.are;
+  carried = b.carried;
+}
+
+agreed_now : (opened : Bool) (course : Course) (s : ReportState) (now : Bool) (b : Bus1) (calls : List EpCall) → b.opened ≡ opened → SureBy s.unsure s.lost now
+    → Now1 course s b calls → Now1 course (record s { unsure = now }) (known_if opened b) calls
+unfolding known_begun
+agreed_now true Rests s now b calls o k h = record {
+  free = record { empty = h.free.empty; reported = h.free.reported; agrees = known_agrees s.unsure s.lost now b k o h.free.agrees };
+  carried = marked_carries Known false s.size b.got (sent_of calls) (λ r n. n) h.carried;
+  marked = λ x. absurd (true_false (sym x ∙ known_now s.unsure s.lost now b k o h.free.agrees));
+}
+agreed_now true Begins s now b calls o k h = record {
+  free = record { empty = h.free.empty; reported = h.free.reported; agrees = known_agrees s.unsure s.lost now b k o h.free.agrees };
+  earlier = h.earlier;
+  sent = h.sent;
+  begun = known_begun s.size s.report b.got h.earlier h.begun;
+  once = tt;
+  marked = λ x. absurd (true_false (sym x ∙ known_now s.unsure s.lost now b k o h.free.agrees));
+}
+agreed_now true Goes s now b calls o k h = absurd (true_false (sym o ∙ h.closed))
+agreed_now false Rests s now b calls o k h = record {
+  free = record { empty = h.free.empty; reported = h.free.reported; agrees = closed_agrees s.unsure s.lost now b k o h.free.agrees };
+  carried = h.carried;
+  marked = λ x. h.marked (still_unsure s.unsure s.lost now k x);
+}
+agreed_now false Begins s now b calls o k h = record {
+  free = record { empty = h.free.empty; reported = h.free.reported; agrees = closed_agrees s.unsure s.lost now b k o h.free.agrees };
   earlier = h.earlier;
   sent = h.sent;
   begun = h.begun;
   once = h.once;
-  marked = λ x. absurd (true_false (sym x));
+  marked = λ x. h.marked (still_unsure s.unsure s.lost now k x);
 }
-sure_now Goes s left b calls l k h = record {
+agreed_now false Goes s now b calls o k h = record {
   counted = h.counted;
   closed = h.closed;
-  sure = refl;
+  sure = still_sure s.unsure s.lost now k h.sure;
   earlier = h.earlier;
   sent = h.sent;
   old = h.old;
@@ -202,9 +242,20 @@ sure_now Goes s left b calls l k h = record {
   fewer = h.fewer;
 }
 
-pub sure_link : (s : ReportState) (left : ℕ) (b : Bus1) (calls : List EpCall) → s.lost ≡ false → (b.opened ≡ true → b.host ≡ false) → Link1 s b calls
-    → Link1 (record s { unsure = false; left = left }) b calls
-sure_link s left b calls l k h = record { asked = h.asked; fresh = h.fresh; current = λ r. sure_now s.course (core s) 0 b calls l k (h.current r) }
+agreed_by : (opened : Bool) (s : ReportState) (now : Bool) (b : Bus1) (calls : List EpCall) → b.opened ≡ opened → SureBy s.unsure s.lost now
+    → Link1 s b calls → Link1 (record s { unsure = now }) (known_if opened b) calls
+agreed_by true s now b calls o k h = record {
+  asked = h.asked;
+  fresh = λ r. absurd (true_false (sym o ∙ ap (λ (y : Bus1). y.opened) (h.fresh r)));
+  current = λ r. agreed_now true s.course (core s) now b calls o k (h.current r);
+}
+agreed_by false s now b calls o k h = record { asked = h.asked; fresh = h.fresh; current = λ r. agreed_now false s.course (core s) now b calls o k (h.current r) }
+
+pub agreed_link : (steps : List Bus1) (s : ReportState) (now : Bool) (b mid new : Bus1) (calls : List EpCall) → SureBy s.unsure s.lost now → Goes1 steps b mid
+    → new ≡ known_if mid.opened mid → Link1 s b calls → Link1 (record s { unsure = now }) new calls
+agreed_link steps s now b mid new calls k g e h =
+    let P : Bus1 → Type 0 = λ x. Link1 (record s { unsure = now }) x calls in
+    subst P (sym e) (agreed_by mid.opened s now mid calls refl k (goes1 steps s b mid calls g h))
 
 pub polled_none : (s : ReportState) (b : Bus1) (calls : List EpCall) → s.course ≡ Rests → Link1 s b calls → Link1 s b (Polled None ∷ calls)
 polled_none s b calls e h = same_reports s b calls (Polled None ∷ calls) h refl refl
@@ -216,15 +267,15 @@ begin_by true s b calls report e h = record {
   earlier = sent_of calls;
   sent = refl;
   begun = record { pieces = []; before = b.got; got_is = refl; are = tt; carried = h.carried };
-  once = inl refl;
-  marked = λ x. inr (h.marked x);
+  once = tt;
+  marked = λ x. h.marked x;
 }
 begin_by false s b calls report e h = record {
   free = h.free;
   earlier = sent_of calls;
   sent = refl;
   begun = record { pieces = []; before = b.got; got_is = refl; are = tt; carried = h.carried };
-  once = inl refl;
+  once = tt;
   marked = λ x. absurd (true_false (sym x ∙ e));
 }
 

@@ -6,7 +6,7 @@ use Rattle.usb_device.specs.declared.answer.EpAnswer.{EpAnswer}
 use Rattle.usb_device.specs.declared.answer.Endpoint1.{Endpoint1}
 use Rattle.usb_device.specs.declared.answer.Change.{Change}
 use Rattle.usb_device.specs.Requests.{Lent, Served, Reads, SetupFields, request_of, served, served_if, device_status, names}
-use Rattle.usb_device.specs.Events.{Event, SetupCame, OutCame, InAsked, PollAsked, ResetCame, SuspendCame, ResumeCame, WakeAsked}
+use Rattle.usb_device.specs.Events.{Event, SetupCame, OutCame, InAsked, PollAsked, ResetCame, SuspendCame, ResumeCame, WakeAsked, StatusSeen, ScanCame}
 use Rattle.usb_device.specs.Steps.{Stage, Theirs, Sending, Status, Over, state_of, AllAnswered, InAnswer, after_in, after_out, first_stage, change_of, endpoint_then, renewed_then, wakeup_then, wakes}
 use Rattle.usb_device.specs.States.{setup_in, is_empty_packet, change_in, completed, endpoint_by, has_renewed, wakeup_by, is_suspended, has_woken, wakes_by}
 
@@ -60,7 +60,7 @@ start_by : (lent : Lent) → (e : Endpoint1) → By lent Theirs None e
 unfolding By
 start_by lent e = λ bytes q. cc
 
-same_lent : (lent : Lent) (past : List Event) → (state_of lent past).lent ≡ lent
+pub same_lent : (lent : Lent) (past : List Event) → (state_of lent past).lent ≡ lent
 unfolding state_of
 same_lent lent [] = refl
 same_lent lent (SetupCame bytes ∷ past) = same_lent lent past
@@ -70,6 +70,8 @@ same_lent lent (PollAsked answer ∷ past) = same_lent lent past
 same_lent lent (ResetCame ∷ past) = same_lent lent past
 same_lent lent (SuspendCame ∷ past) = same_lent lent past
 same_lent lent (ResumeCame ∷ past) = same_lent lent past
+same_lent lent (StatusSeen ∷ past) = same_lent lent past
+same_lent lent (ScanCame ∷ past) = same_lent lent past
 same_lent lent (WakeAsked has_report answer ∷ past) = same_lent lent past
 
 -- what follows a change of the state follows that of the history function
@@ -111,6 +113,8 @@ standing lent (SuspendCame ∷ past) all =
 standing lent (ResumeCame ∷ past) all =
     let s = standing lent past all.1 in
     record { endpoint = s.endpoint; by = s.by; renewed = s.renewed; wakeup = s.wakeup; suspended = refl; woken = s.woken }
+standing lent (StatusSeen ∷ past) all = let s = standing lent past all.1 in record { endpoint = s.endpoint; by = s.by; renewed = s.renewed; wakeup = s.wakeup; suspended = s.suspended; woken = s.woken }
+standing lent (ScanCame ∷ past) all = let s = standing lent past all.1 in record { endpoint = s.endpoint; by = s.by; renewed = s.renewed; wakeup = s.wakeup; suspended = s.suspended; woken = s.woken }
 standing lent (WakeAsked has_report answer ∷ past) all =
     let s = standing lent past all.1 in
     record { endpoint = s.endpoint; by = s.by; renewed = s.renewed; wakeup = s.wakeup; suspended = s.suspended; woken = ap (λ x. x || answer) s.woken }
@@ -121,3 +125,11 @@ wakes_looked lent past has_report all =
     let n = state_of lent past in
     ap (λ x. x && not n.woken && n.wakeup && has_report) s.suspended ∙ (ap (λ x. is_suspended past && not x && n.wakeup && has_report) s.woken
     ∙ ap (λ x. is_suspended past && not (has_woken past) && x && has_report) s.wakeup)
+
+-- what an answer sets
+pub changes_looked : (lent : Lent) (past : List Event) (answer : EpAnswer) → AllAnswered lent (InAsked answer ∷ past)
+    → completed lent (is_empty_packet answer) (setup_in past) (endpoint_by lent past) ≡ change_of (state_of lent past).stage
+changes_looked lent past answer all =
+    let s = standing lent past all.1 in
+    sym (ap (λ e. completed lent (is_empty_packet answer) (setup_in past) e) s.endpoint)
+    ∙ in_change lent (state_of lent past).stage answer (setup_in past) (state_of lent past).endpoint s.by all.0

@@ -15,6 +15,8 @@ pub data Got : Type 0 where
   Anew : Endpoint1 → Got
   -- the device emptied its buffers, since it gave up the report in them; the toggles go on
   GivenUp : Got
+  -- the device knew that the host has begun anew, too, before it handed over a packet
+  Known : Got
 
 pub record Bus1 : Type 0 where
   -- since the last reset of the bus, newest first
@@ -26,7 +28,7 @@ pub record Bus1 : Type 0 where
   pub slots : List (List ℕ)
   -- how many packets were acknowledged, and that was not reported
   pub taken : ℕ
-  -- the device began anew, and no packet was handed over since: the host may begin anew, too
+  -- the device began anew, handed over no packet since, and does not know of the host: it may begin anew, too
   pub opened : Bool
   -- the bus was reset, and that was not reported
   pub reset : Bool
@@ -76,7 +78,7 @@ abbrev pub with_host_anew : Bus1 → Bus1
 with_host_anew b = record { got = b.got; host = false; device = b.device; slots = b.slots; taken = b.taken; opened = b.opened; reset = b.reset }
 
 -- one thing happens. A host that has the status packet of a request which sets endpoint 1 begins anew (sections 9.4.1, 9.4.7,
--- 9.4.10): at some time before the device hands over another packet, for which it waits (`Waits`).
+-- 9.4.10): at some time before the device hands over another packet, for which it waits (`pause_of`).
 pub data Happens1 (b next : Bus1) : Type 0 where
   takes : (packet : List ℕ) (rest : List (List ℕ)) → b.slots ≡ packet ∷ rest → next ≡ with_taken1 b packet rest → Happens1 b next
   loses : (packet : List ℕ) (rest : List (List ℕ)) → b.slots ≡ packet ∷ rest → next ≡ with_lost1 b packet → Happens1 b next
@@ -96,9 +98,12 @@ abbrev pub OnlyReported : Bus1 → Bus1 → Type 0
 OnlyReported b new = (steps : List Bus1) × (mid : Bus1) × Goes1 steps b mid × (new ≡ reported mid)
 
 -- the host is known to have the status packet: it has begun anew
-abbrev pub begun_if : Bool → Bus1 → Bus1
-begun_if true b = with_host_anew b
-begun_if false b = b
+abbrev pub with_known : Bus1 → Bus1
+with_known b = record { got = Known ∷ b.got; host = false; device = b.device; slots = b.slots; taken = b.taken; opened = false; reset = b.reset }
+
+abbrev pub known_if : Bool → Bus1 → Bus1
+known_if true b = with_known b
+known_if false b = b
 
 -- a command has no effect where a reset has come that was not reported
 abbrev pub unless_reset : Bool → Bus1 → Bus1 → Bus1
@@ -185,7 +190,18 @@ abbrev pub states_reported : List Got → List Endpoint1
 states_reported [] = []
 states_reported (New packet ∷ before) = states_reported before
 states_reported (GivenUp ∷ before) = states_reported before
+states_reported (Known ∷ before) = states_reported before
 states_reported (Anew state ∷ before) = state ∷ states_reported before
+
+-- what came beside packets
+abbrev pub marks : List Got → List Got
+marks [] = []
+marks (New packet ∷ before) = marks before
+marks (mark ∷ before) = mark ∷ marks before
+
+-- the device began anew, knew that the host has, too, and has not emptied its buffers since
+abbrev pub IsKnown : List Got → Type 0
+IsKnown got = (before : List Got) × (marks got ≡ Known ∷ before)
 
 -- the calls but for the polls
 abbrev pub no_polls : List EpCall → List EpCall

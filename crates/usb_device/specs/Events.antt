@@ -17,5 +17,9 @@ pub data Event : Type 0 where
   -- the bus is suspended (section 7.1.7.6), and goes on (section 7.1.7.7)
   SuspendCame : Event
   ResumeCame : Event
+  -- the controller saw that the host has the status packet of its transfer
+  StatusSeen : Event
+  -- a scan of the matrix, each millisecond
+  ScanCame : Event
   -- it was asked whether to signal a remote wakeup, where a report was under way or not, and its answer
   WakeAsked : (has_report : Bool) → (answer : Bool) → Event

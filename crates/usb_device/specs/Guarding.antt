@@ -71,6 +71,10 @@ is_refused (Met BusReset ∷ before) = false
 is_refused (Met (Out packet answer) ∷ before) = is_refused before || (is_locked before && is_command (calls_met before) packet)
 is_refused (_ ∷ before) = is_refused before
 
+-- the longest pace, in scans: a host waits 5 seconds for a status stage (USB 2.0 section 9.2.6.1)
+abbrev pub most_pace : ℕ
+most_pace = 4000
+
 abbrev pub zero_if : Bool → ℕ → ℕ
 zero_if true count = 0
 zero_if false count = count

@@ -1,7 +1,6 @@
 pub mod Packets
 pub mod Calls
 pub mod Strings
-pub mod Waits
 pub mod Requests
 pub mod Events
 pub mod Steps
@@ -12,6 +11,7 @@ pub mod Forgetting
 pub mod Guarding
 pub mod Whole
 pub mod WholeReads
+pub mod Given
 pub mod Transfers
 pub mod Bus1
 pub mod Reports
@@ -19,4 +19,5 @@ pub mod Addresses
 pub mod Through
 pub mod Served
 pub mod Pauses
+pub mod Answered
 pub mod representation

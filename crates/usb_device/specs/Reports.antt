@@ -1,6 +1,6 @@
 -- Trusted: the packets of a report (USB 2.0 section 5.7.3), and what reports the packets are that a host took as new.
 use Rattle.std.specs.Prelude.{◌≡◌, ◌⊎◌, ℕ, zero, suc, ◌-◌, ◌/◌, Bool, true, false, List, [], ◌∷◌, ◌++◌, length, take, drop}
-use Rattle.usb_device.specs.Bus1.{Got, New, Anew, GivenUp, Sent, Reported, Changed, is_old, newest}
+use Rattle.usb_device.specs.Bus1.{Got, New, Anew, GivenUp, Known, Sent, Reported, Changed, is_old, newest}
 
 -- so many packets of the bytes: each full, but for the last
 abbrev pub cut : ℕ → ℕ → List ℕ → List (List ℕ)
@@ -29,13 +29,7 @@ ArePieces size report [] = Unit {0}
 ArePieces size report (New packet ∷ rest) = IsPacket packet (packets_of size report) × ArePieces size report rest
 ArePieces size report (Anew state ∷ rest) = ArePieces size report rest
 ArePieces size report (GivenUp ∷ rest) = ⊥
-
--- the device began anew among these
-abbrev pub HasAnew : List Got → Type 0
-HasAnew [] = ⊥
-HasAnew (New packet ∷ rest) = HasAnew rest
-HasAnew (Anew state ∷ rest) = Unit {0}
-HasAnew (GivenUp ∷ rest) = HasAnew rest
+ArePieces size report (Known ∷ rest) = ArePieces size report rest
 
 -- the host took a packet among these
 abbrev pub HasNew : List Got → Type 0
@@ -43,17 +37,29 @@ HasNew [] = ⊥
 HasNew (New packet ∷ rest) = Unit {0}
 HasNew (Anew state ∷ rest) = HasNew rest
 HasNew (GivenUp ∷ rest) = HasNew rest
+HasNew (Known ∷ rest) = HasNew rest
 
--- the device emptied its buffers, and the host took nothing since
+-- the device emptied its buffers, the host took nothing since, and is not known to have begun anew (sections 8.6 and 9.1.1.5)
 abbrev pub IsEmptied : List Got → Type 0
 IsEmptied [] = ⊥
 IsEmptied (New packet ∷ rest) = ⊥
 IsEmptied (Anew state ∷ rest) = Unit {0}
 IsEmptied (GivenUp ∷ rest) = Unit {0}
+IsEmptied (Known ∷ rest) = ⊥
 
--- the device emptied its buffers behind the report before
+-- behind the report before, and behind what came of this one, it is so but for packets of this one
 abbrev pub MayRepeat : List Got → List Got → Type 0
-MayRepeat pieces before = HasAnew pieces ⊎ IsEmptied before
+MayRepeat [] before = IsEmptied before
+MayRepeat (New packet ∷ rest) before = MayRepeat rest before
+MayRepeat (Anew state ∷ rest) before = Unit {0}
+MayRepeat (GivenUp ∷ rest) before = Unit {0}
+MayRepeat (Known ∷ rest) before = ⊥
+
+-- a report may come whole behind these packets of it: none came since the device last emptied its buffers, or it may repeat them
+abbrev pub MayFollow : List Got → List Got → Type 0
+MayFollow [] before = Unit {0}
+MayFollow (New packet ∷ rest) before = MayRepeat rest before
+MayFollow (_ ∷ rest) before = Unit {0}
 
 -- nothing came, but that the device emptied its buffers
 abbrev pub NothingCame : List Got → Type 0
@@ -61,16 +67,17 @@ NothingCame [] = Unit {0}
 NothingCame (New packet ∷ rest) = ⊥
 NothingCame (Anew state ∷ rest) = NothingCame rest
 NothingCame (GivenUp ∷ rest) = NothingCame rest
+NothingCame (Known ∷ rest) = NothingCame rest
 
 -- the host has these reports, newest first, and each of them whole, in their order. Each came once, unless the device emptied its
--- buffers behind the report before: then packets of it came before it. Only a report behind which the protocol was set may have
+-- buffers before it and did not know that the host has begun anew: then packets of it came before it. Only a report behind which the protocol was set may have
 -- been given up: then packets of it may have come before, and none came since.
 abbrev pub CarriesBy : Bool → ℕ → List Got → List Sent → Type 0
 CarriesBy old size got [] = NothingCame got
 CarriesBy old size got (Changed ∷ earlier) = CarriesBy true size got earlier
 CarriesBy old size got (Reported report ∷ earlier) =
     ((since : List Got) × (pieces : List Got) × (before : List Got) × (got ≡ since ++ with_new (packets_of size report) (pieces ++ before))
-    × NothingCame since × ArePieces size report pieces × ((pieces ≡ []) ⊎ MayRepeat pieces before) × CarriesBy false size before earlier)
+    × NothingCame since × ArePieces size report pieces × MayFollow pieces before × CarriesBy false size before earlier)
     ⊎ ((old ≡ true) × (since : List Got) × (pieces : List Got) × (before : List Got) × (got ≡ since ++ GivenUp ∷ (pieces ++ before))
     × NothingCame since × ArePieces size report pieces × CarriesBy false size before earlier)
 

@@ -11,7 +11,7 @@ use Rattle.usb_device.specs.declared.answer.Change.TheVariants.{Address, Endpoin
 use Rattle.usb_device.specs.Packets.{packet_at}
 use Rattle.usb_device.specs.Calls.{EpCall, SetUp, Out, In, Polled, BusReset}
 use Rattle.usb_device.specs.Requests.{Lent, Served, Reads, Sets, request_of, served}
-use Rattle.usb_device.specs.Events.{Event, SetupCame, OutCame, InAsked, PollAsked, ResetCame, SuspendCame, ResumeCame, WakeAsked}
+use Rattle.usb_device.specs.Events.{Event, SetupCame, OutCame, InAsked, PollAsked, ResetCame, SuspendCame, ResumeCame, WakeAsked, StatusSeen, ScanCame}
 
 -- where the transfer on endpoint 0 stands (section 8.5.3)
 pub data Stage : Type 0 where
@@ -125,6 +125,8 @@ state_then now (PollAsked answer) = now
 state_then now ResetCame = start now.lent
 state_then now SuspendCame = record now { suspended = true; woken = false }
 state_then now ResumeCame = record now { suspended = false }
+state_then now StatusSeen = now
+state_then now ScanCame = now
 state_then now (WakeAsked has_report answer) = record now { woken = now.woken || answer }
 
 -- where the device layer stands after these events, newest first

@@ -3,7 +3,6 @@ pub mod Value
 pub mod Relation
 pub mod Link
 pub mod Link1
-pub mod Waited
 pub mod Whole
 pub mod WholeReads
 pub mod Layered

@@ -1,7 +1,7 @@
 //! What is asked of the buffers of endpoint 1.
 
 ghost use Rattle.std.specs.Prelude.{◌≡◌, ◌≤◌, ◌<◌, length, Bool, false, List};
-ghost use Rattle.usb_device.specs.Bus1.{Bus1, Goes1, anew, begun_if, blank, filled, given_up, room_of, reported};
+ghost use Rattle.usb_device.specs.Bus1.{Bus1, Goes1, anew, blank, filled, given_up, known_if, room_of, reported};
 ghost use Rattle.usb_device.specs.representation.Link1.{size_of};
 
 use crate::{Endpoint1, Report};
@@ -76,7 +76,7 @@ pub trait Buffers {
 
     /// The host has the status packet of the request behind the last `begin_anew`. Such a host has begun anew.
     fn host_began(&mut self)
-        ensures { (steps : List Bus1) × (mid : Bus1) × Goes1 steps (bus self.old) mid × (bus self.new ≡ begun_if mid.opened mid) };
+        ensures { (steps : List Bus1) × (mid : Bus1) × Goes1 steps (bus self.old) mid × (bus self.new ≡ known_if mid.opened mid) };
 
     /// Follows a reset of the bus: endpoint 1 is off, with empty buffers and DATA0.
     fn forget(&mut self)

@@ -1,15 +1,16 @@
 //! Endpoint 0 behind a controller that is handed packets beforehand.
 
-ghost use Rattle.std.specs.Prelude.{◌≡◌, ◌∷◌, [], Bool, true, false, ℕ, List, None, Some};
+ghost use Rattle.std.specs.Prelude.{◌≡◌, ◌==◌, ◌∷◌, [], Bool, true, false, ℕ, List, None, Some};
 ghost use Rattle.std.specs.Option.{option_map};
 ghost use Rattle.usb_device.specs.Requests.{word_at};
 ghost use Rattle.usb_device.specs.Calls.{EpCall, SetUp, BusReset};
 ghost use Rattle.usb_device.specs.Bus.{is_pending, Bus, Goes, Sends, Takes, with_input, with_output, is_out, is_write, looked, mode_of, out_mode_of};
 ghost use Rattle.usb_device.specs.Addresses.{Stays, StaysOrReset};
 ghost use Rattle.usb_device.specs.Bus1.{KeptOrReset};
-ghost use Rattle.usb_device.specs.Served.{Grows, Asks, AsksNow, Looks, handed_on};
-ghost use Rattle.usb_device.specs.Transfers.{is_done, is_over, TransferState, Idle, Refused, Over, ReadDue, Closing, Opening, Asking, Due, IsOpen, WasAsked, last_0, Rests, NothingWithheld0};
-ghost use Rattle.usb_device.specs.representation.Link.{Link, Ready, IsBegun, ended, on_taken, met_view, transfer_view};
+ghost use Rattle.usb_device.specs.Served.{Grows, handed_on};
+ghost use Rattle.usb_device.specs.Given.{is_read};
+ghost use Rattle.usb_device.specs.Transfers.{is_done, is_over, TransferState, Idle, Refused, Over, ReadDue, Closing, Opening, Asking, Due, IsOpen, Rests, NothingWithheld0};
+ghost use Rattle.usb_device.specs.representation.Link.{Asks, AsksNow, LooksAs, Link, Ready, IsBegun, ended, is_reading, on_taken, met_view, transfer_view};
 
 use crate::controller::{Controller, Input, Output, Waiting};
 use crate::{Endpoints, EpAnswer};
@@ -72,7 +73,8 @@ impl Model for ControlBuffers {
 /// The transfer that a SETUP packet begins.
 fn first_transfer(setup: [u8; 8]) -> Transfer
     ensures write { is_write setup ≡ true → transfer_view result ≡ Opening }
-    ensures no_data { is_out setup ≡ true → is_write setup ≡ false → transfer_view result ≡ Asking }
+    ensures read { is_read setup ≡ true → transfer_view result ≡ ReadDue (word_at setup 6) }
+    ensures no_data { (word_at setup 6 == 0) ≡ true → transfer_view result ≡ Asking }
     ensures begun { IsBegun (transfer_view result) }
 {
     let length = u16::from_le_bytes([setup[6], setup[7]]);
@@ -144,11 +146,11 @@ impl ControlBuffers {
     /// that the controller acknowledges a repetition (section 8.6.4); a second packet is not due, and stalls the transfer.
     pub fn serve<E: Endpoints, C: Controller>(&mut self, device: &mut E, controller: &mut C)
         ensures linked { (calls : List EpCall) → E.refines calls device.old → Link self.old (C.bus controller.old) calls
-            → NothingWithheld0 self.old (C.bus controller.old) calls
+            → NothingWithheld0 self.old (C.bus controller.old)
             → (later : List EpCall) × E.refines later device.new × Link self.new (C.bus controller.new) later
-            × NothingWithheld0 self.new (C.bus controller.new) later × KeptOrReset calls later
+            × NothingWithheld0 self.new (C.bus controller.new) × KeptOrReset calls later
             × StaysOrReset (C.bus controller.new).met.reset calls later (C.address_of controller.old) (C.address_of controller.new)
-            × Looks self.new (C.bus controller.old) (C.bus controller.new) calls later }
+            × LooksAs self.new (C.bus controller.old) (C.bus controller.new) calls later }
         ensures kept { (from : E) → E.keeps from device.old → E.keeps from device.new }
     {
         let met = controller.waiting();
@@ -181,8 +183,8 @@ impl ControlBuffers {
     /// Takes what was met.
     fn take<E: Endpoints>(&mut self, met: Waiting, device: &mut E)
         ensures linked { (b : Bus) (calls : List EpCall) → E.refines calls device.old → Link self.old b calls → met_view met ≡ b.met
-            → NothingWithheld0 self.old b calls
-            → (later : List EpCall) × E.refines later device.new × Link self.new (looked b) later × Ready self.new (looked b) later
+            → NothingWithheld0 self.old b
+            → (later : List EpCall) × E.refines later device.new × Link self.new (looked b) later × Ready self.new (looked b)
             × Asks (handed_on b.met calls) later }
         ensures kept { (from : E) → E.keeps from device.old → E.keeps from device.new }
     {
@@ -207,8 +209,8 @@ impl ControlBuffers {
     fn follow<E: Endpoints>(&mut self, taken: bool, out: Option<ArrayVec<u8, 8>>, device: &mut E)
         ensures linked { (b : Bus) (calls : List EpCall) → E.refines calls device.old → Link self.old b calls
             → b.met.reset ≡ false → b.met.setup ≡ None → b.met.out ≡ option_map (λ p. p.items) out → b.met.taken ≡ taken
-            → Rests self.old b calls
-            → (later : List EpCall) × E.refines later device.new × Link self.new (looked b) later × Ready self.new (looked b) later
+            → Rests self.old b
+            → (later : List EpCall) × E.refines later device.new × Link self.new (looked b) later × Ready self.new (looked b)
             × Asks calls later }
         ensures kept { (from : E) → E.keeps from device.old → E.keeps from device.new }
     {
@@ -234,8 +236,9 @@ impl ControlBuffers {
 
     /// The OUT packet of a read, which ends it.
     fn close<E: Endpoints>(&mut self, packet: ArrayVec<u8, 8>, device: &mut E)
-        ensures linked { (b : Bus) (calls : List EpCall) → E.refines calls device.old → is_pending b.met ≡ false → Link Closing b calls
-            → (later : List EpCall) × E.refines later device.new × Link self.new b later × Ready self.new b later
+        ensures linked { (b : Bus) (calls : List EpCall) → E.refines calls device.old → Link self.old b calls → is_reading self.old ≡ true
+            → b.met.reset ≡ false → b.met.setup ≡ None → b.met.out ≡ Some packet.items
+            → (later : List EpCall) × E.refines later device.new × Link self.new (looked b) later × Ready self.new (looked b)
             × Asks calls later }
         ensures kept { (from : E) → E.keeps from device.old → E.keeps from device.new }
     {
@@ -245,7 +248,7 @@ impl ControlBuffers {
 
     /// The host has the packet of endpoint 0.
     fn move_on(&mut self)
-        ensures linked { (b : Bus) (calls : List EpCall) → Link self.old b calls → b.met.reset ≡ false → b.met.setup ≡ None → b.met.out ≡ None
+        ensures linked { (b : Bus) (calls : List EpCall) → Link self.old b calls → b.met.reset ≡ false → b.met.setup ≡ None → b.met.out ≡ None → b.met.taken ≡ true
             → Link self.new (looked b) calls }
         ensures moved { self.new ≡ on_taken self.old }
     {
@@ -261,9 +264,9 @@ impl ControlBuffers {
     #[tactic(auto, using(crate::proofs::Addressing::stays_still, crate::proofs::Looking::grows_none, crate::proofs::Looking::asks_nothing))]
     fn go_on<E: Endpoints, C: Controller>(&mut self, device: &mut E, controller: &mut C)
         ensures linked { (calls : List EpCall) → E.refines calls device.old → Link self.old (C.bus controller.old) calls
-            → Ready self.old (C.bus controller.old) calls
+            → Ready self.old (C.bus controller.old)
             → (later : List EpCall) × E.refines later device.new × Link self.new (C.bus controller.new) later
-            × NothingWithheld0 self.new (C.bus controller.new) later × AsksNow self.new calls later }
+            × NothingWithheld0 self.new (C.bus controller.new) × AsksNow self.new calls later }
         ensures kept { (from : E) → E.keeps from device.old → E.keeps from device.new }
         ensures stays { Stays (C.bus controller.old) (C.bus controller.new) (C.address_of controller.old) (C.address_of controller.new) }
         ensures grows { Grows (C.bus controller.old).seen (C.bus controller.new).seen }
@@ -298,7 +301,7 @@ impl ControlBuffers {
     fn ask<E: Endpoints, C: Controller>(&mut self, device: &mut E, controller: &mut C)
         ensures linked { (calls : List EpCall) → E.refines calls device.old → Link Due (C.bus controller.old) calls
             → (later : List EpCall) × E.refines later device.new × Link self.new (C.bus controller.new) later
-            × NothingWithheld0 self.new (C.bus controller.new) later × AsksNow self.new calls later }
+            × NothingWithheld0 self.new (C.bus controller.new) × AsksNow self.new calls later }
         ensures kept { (from : E) → E.keeps from device.old → E.keeps from device.new }
         ensures stays { Stays (C.bus controller.old) (C.bus controller.new) (C.address_of controller.old) (C.address_of controller.new) }
         ensures grows { Grows (C.bus controller.old).seen (C.bus controller.new).seen }
@@ -313,7 +316,7 @@ impl ControlBuffers {
         ensures linked { (calls : List EpCall) → E.refines calls device.old → Link Due (C.bus controller.old) calls
             → (is_pending (C.bus controller.old).met ≡ false → IsOpen (C.bus controller.old))
             → (later : List EpCall) × E.refines later device.new × Link self.new (C.bus controller.new) later
-            × NothingWithheld0 self.new (C.bus controller.new) later × AsksNow self.new calls later }
+            × NothingWithheld0 self.new (C.bus controller.new) × AsksNow self.new calls later }
         ensures kept { (from : E) → E.keeps from device.old → E.keeps from device.new }
         ensures stays { Stays (C.bus controller.old) (C.bus controller.new) (C.address_of controller.old) (C.address_of controller.new) }
         ensures grows { Grows (C.bus controller.old).seen (C.bus controller.new).seen }
@@ -331,7 +334,7 @@ impl ControlBuffers {
     /// The transfer is over: each further packet is stalled.
     fn refuse<C: Controller>(&mut self, controller: &mut C)
         ensures over { self.new ≡ Over }
-        ensures reported { (calls : List EpCall) → WasAsked (last_0 calls) → NothingWithheld0 Over (C.bus controller.new) calls }
+        ensures reported { NothingWithheld0 Over (C.bus controller.new) }
         ensures linked { (calls : List EpCall) → Link Refused (C.bus controller.old) calls → Link Over (C.bus controller.new) calls }
         ensures stays { Stays (C.bus controller.old) (C.bus controller.new) (C.address_of controller.old) (C.address_of controller.new) }
         ensures grows { Grows (C.bus controller.old).seen (C.bus controller.new).seen }
@@ -346,7 +349,7 @@ impl ControlBuffers {
     fn read<E: Endpoints, C: Controller>(&mut self, left: u16, device: &mut E, controller: &mut C)
         ensures linked { (calls : List EpCall) → E.refines calls device.old → Link (ReadDue left) (C.bus controller.old) calls
             → (later : List EpCall) × E.refines later device.new × Link self.new (C.bus controller.new) later
-            × NothingWithheld0 self.new (C.bus controller.new) later × AsksNow self.new calls later }
+            × NothingWithheld0 self.new (C.bus controller.new) × AsksNow self.new calls later }
         ensures kept { (from : E) → E.keeps from device.old → E.keeps from device.new }
         ensures stays { Stays (C.bus controller.old) (C.bus controller.new) (C.address_of controller.old) (C.address_of controller.new) }
         ensures grows { Grows (C.bus controller.old).seen (C.bus controller.new).seen }

@@ -1,22 +1,20 @@
 //! A device behind its USB device layer, with endpoint 1 behind buffers, as one device.
 
-ghost use Rattle.std.specs.Prelude.{◌≡◌, ◌≤◌, ◌&&◌, ◌-◌, ◌∷◌, ◌++◌, [], false, max, List, None, Option};
+ghost use Rattle.std.specs.Prelude.{◌≡◌, ◌∷◌, ◌++◌, [], true, false, List, Some, None, Option};
 ghost use Rattle.std.specs.Option.{option_map};
 ghost use Rattle.usb_device.specs.declared.report_buffers.Course.TheVariants.{Rests};
 ghost use Rattle.usb_device.specs.Steps.{polled_of};
-ghost use Rattle.usb_device.specs.States.{is_empty_packet, has_renewed, wakes_by};
+ghost use Rattle.usb_device.specs.States.{has_renewed, wakes_by};
 ghost use Rattle.usb_device.specs.representation.Relation.{Refines};
 ghost use Rattle.usb_device.specs.declared.answer.Endpoint1.{Endpoint1};
 ghost use Rattle.usb_device.specs.Calls.{EpCall, Polled, Out};
-ghost use Rattle.usb_device.specs.Bus1.{no_polls, room_of, blank, OnlyReported};
+ghost use Rattle.usb_device.specs.Bus1.{no_polls, room_of, blank, IsKnown, OnlyReported};
 ghost use Rattle.usb_device.specs.Requests.{Lent};
-ghost use Rattle.usb_device.specs.Events.{Event, OutCame, SuspendCame, ResumeCame, WakeAsked};
-ghost use Rattle.usb_device.specs.Pauses.{ArePolls, HasNone, ServesReports};
+ghost use Rattle.usb_device.specs.Events.{Event, OutCame, SuspendCame, ResumeCame, WakeAsked, StatusSeen, ScanCame};
+ghost use Rattle.usb_device.specs.Pauses.{ArePolls, Hands, HasNone, pause_by, sets_endpoint};
 ghost use Rattle.usb_device.specs.Through.{calls_of};
-ghost use Rattle.usb_device.specs.Waits.{Moment, Scanned, Released};
-ghost use Rattle.usb_device.specs.representation.Waited.{Waited};
 ghost use Rattle.usb_device.specs.representation.Paused.{GoesOn};
-ghost use Rattle.usb_device.specs.representation.Link1.{Link1, InStep, NothingWithheld, may_send};
+ghost use Rattle.usb_device.specs.representation.Link1.{Link1, InStep, KeepsMarks, NothingWithheld, may_send};
 ghost use Rattle.usb_device.specs.representation.Layered.{Layered, PolledOnce, endpoint_set, with_state, is_ready, report_waits};
 
 use crate::buffers::Buffers;
@@ -30,8 +28,6 @@ pub struct Device<'a, E, B> {
     pub(crate) behind: E,
     pub(crate) buffers: B,
     reports: ReportBuffers,
-    /// Whether the transfer under way is no read, so that its last packet is the empty one of the status stage.
-    sets: bool,
 }
 
 /// What a change sets endpoint 1 to.
@@ -49,8 +45,9 @@ fn follow<B: Buffers>(change: Option<Change>, buffers: &mut B, reports: &mut Rep
     ensures linked { (calls : List EpCall) → Link1 reports.old (B.bus buffers.old) calls → Link1 reports.new (B.bus buffers.new) calls }
     ensures reported { (states : List Endpoint1) → InStep states (B.bus buffers.old)
         → InStep (with_state (endpoint_set change) states) (B.bus buffers.new) }
-    ensures waits { endpoint_set change ≡ None → reports.new.left ≡ reports.old.left }
-    ensures most { reports.new.left ≤ max reports.old.left 50 }
+    ensures opened { (state : Endpoint1) → endpoint_set change ≡ Some state → (B.bus buffers.new).reset ≡ false → (B.bus buffers.new).opened ≡ true }
+    ensures same { endpoint_set change ≡ None → buffers.new ≡ buffers.old }
+    ensures waits { reports.new.left ≡ pause_by (sets_endpoint change) reports.old.left }
 {
     match endpoint_set(change) {
         Some(state) => {
@@ -59,16 +56,6 @@ fn follow<B: Buffers>(change: Option<Change>, buffers: &mut B, reports: &mut Rep
             reports.begin_anew();
         }
         None => {}
-    }
-}
-
-/// Whether an answer is the packet of a status stage.
-fn is_status(sets: bool, answer: &EpAnswer) -> bool
-    ensures { result ≡ (sets && is_empty_packet answer.now) }
-{
-    match answer {
-        EpAnswer::Packet(packet) => sets && packet.is_empty(),
-        EpAnswer::Ack | EpAnswer::Nak | EpAnswer::Stall => false,
     }
 }
 
@@ -87,7 +74,6 @@ impl<'a, E: Endpoints, B: Buffers> Device<'a, E, B> {
     pub fn new(layer: DeviceLayer<'a>, behind: E, buffers: B, size: PacketSize) -> Device<'a, E, B>
         ensures refines { (lent : Lent) → Refines lent [] layer.entry → E.refines [] behind → B.bus buffers ≡ blank false
             → Layered E.refines lent [] result.layer result.behind result.reports (B.bus result.buffers) }
-        ensures waits { Waited [] result.reports.left }
         ensures holds { result.behind ≡ behind }
     {
         Device {
@@ -95,7 +81,6 @@ impl<'a, E: Endpoints, B: Buffers> Device<'a, E, B> {
             behind,
             buffers,
             reports: ReportBuffers::new(size),
-            sets: false,
         }
     }
 
@@ -103,9 +88,7 @@ impl<'a, E: Endpoints, B: Buffers> Device<'a, E, B> {
     pub fn scan(&mut self)
         ensures refines { (lent : Lent) (past : List Event)
             → Layered E.refines lent past self.old.layer self.old.behind self.old.reports (B.bus self.old.buffers)
-            → Layered E.refines lent past self.new.layer self.new.behind self.new.reports (B.bus self.new.buffers) }
-        ensures waits { (moments : List Moment) → Waited moments self.old.reports.left → Waited (Scanned ∷ moments) self.new.reports.left }
-        ensures less { self.new.reports.left ≡ self.old.reports.left - 1 }
+            → Layered E.refines lent (ScanCame ∷ past) self.new.layer self.new.behind self.new.reports (B.bus self.new.buffers) }
         ensures behind { self.new.behind ≡ self.old.behind }
     {
         self.reports.scan();
@@ -116,16 +99,16 @@ impl<'a, E: Endpoints, B: Buffers> Device<'a, E, B> {
     pub fn is_done(&mut self)
         ensures refines { (lent : Lent) (past : List Event)
             → Layered E.refines lent past self.old.layer self.old.behind self.old.reports (B.bus self.old.buffers)
-            → Layered E.refines lent past self.new.layer self.new.behind self.new.reports (B.bus self.new.buffers) }
-        ensures waits { (moments : List Moment) → Waited (Released ∷ moments) self.new.reports.left }
+            → Layered E.refines lent (StatusSeen ∷ past) self.new.layer self.new.behind self.new.reports (B.bus self.new.buffers) }
         ensures others { (lent : Lent) (past : List Event) → Refines lent past self.old.layer → has_renewed lent past ≡ false
             → (self.new.buffers ≡ self.old.buffers) × (self.new.reports ≡ record self.old.reports { left = 0 }) }
+        ensures known { self.old.layer.renewed ≡ true → ((B.bus self.old.buffers).reset ≡ false → (B.bus self.old.buffers).opened ≡ true)
+            → (B.bus self.new.buffers).reset ≡ false → IsKnown (B.bus self.new.buffers).got }
         ensures behind { self.new.behind ≡ self.old.behind }
     {
         self.reports.release();
         if self.layer.has_renewed() {
-            self.buffers.host_began();
-            self.reports.agree();
+            self.reports.agree(&mut self.buffers);
         }
     }
 
@@ -184,7 +167,11 @@ impl<'a, E: Endpoints, B: Buffers> Device<'a, E, B> {
         ensures asked { (lent : Lent) (past : List Event)
             → Layered E.refines lent past self.old.layer self.old.behind self.old.reports (B.bus self.old.buffers)
             → (asked : List Event) × Layered E.refines lent (asked ++ past) self.new.layer self.new.behind self.new.reports (B.bus self.new.buffers)
-            × ArePolls asked × ServesReports (may_send (is_ready self.old.layer.endpoint) self.old.reports.left) (B.bus self.new.buffers) asked }
+            × ArePolls asked × (may_send (is_ready self.old.layer.endpoint) self.old.reports.left ≡ true → (B.bus self.new.buffers).reset ≡ false
+            → Hands (B.bus self.new.buffers) asked) }
+        ensures marks { (lent : Lent) (past : List Event)
+            → Layered E.refines lent past self.old.layer self.old.behind self.old.reports (B.bus self.old.buffers)
+            → KeepsMarks (B.bus self.old.buffers) (B.bus self.new.buffers) }
         ensures waits { self.new.reports.left ≡ self.old.reports.left }
         ensures same { self.new.layer.endpoint ≡ self.old.layer.endpoint }
         ensures kept { (from : E) → E.keeps from self.old.behind → E.keeps from self.new.behind }
@@ -225,6 +212,7 @@ impl<'a, E: Endpoints, B: Buffers> Device<'a, E, B> {
         ensures met { (lent : Lent) (past : List Event)
             → Layered E.refines lent past self.old.layer self.old.behind self.old.reports (B.bus self.old.buffers)
             → Layered E.refines lent (OutCame packet.now result ∷ past) self.new.layer self.new.behind self.new.reports (B.bus self.new.buffers) }
+        ensures buffers { self.new.buffers ≡ self.old.buffers }
         ensures waits { self.new.reports.left ≡ self.old.reports.left }
         ensures kept { (from : E) → E.keeps from self.old.behind → E.keeps from self.new.behind }
     {
@@ -241,6 +229,7 @@ impl<'a, E: Endpoints, B: Buffers> Device<'a, E, B> {
             → Layered E.refines lent past self.old.layer self.old.behind self.old.reports (B.bus self.old.buffers)
             → (asked : List Event) × Layered E.refines lent (asked ++ past) self.new.layer self.new.behind self.new.reports (B.bus self.new.buffers)
             × ArePolls asked × (self.new.reports.course ≡ Rests → HasNone asked) }
+        ensures buffers { self.new.buffers ≡ self.old.buffers }
         ensures waits { self.new.reports.left ≡ self.old.reports.left }
         ensures same { self.new.layer.endpoint ≡ self.old.layer.endpoint }
         ensures kept { (from : E) → E.keeps from self.old.behind → E.keeps from self.new.behind }
@@ -264,7 +253,6 @@ impl<'a, E: Endpoints, B: Buffers> Endpoints for Device<'a, E, B> {
     fn setup(&mut self, packet: [u8; 8]) {
         self.layer.setup(packet, &mut self.behind);
         self.reports.setup(packet);
-        self.sets = packet[0] < 0x80;
     }
 
     fn out(&mut self, packet: &[u8]) -> EpAnswer {
@@ -275,7 +263,6 @@ impl<'a, E: Endpoints, B: Buffers> Endpoints for Device<'a, E, B> {
         let (answer, change) = self.layer.in_packet(&mut self.behind);
         follow(change, &mut self.buffers, &mut self.reports);
         self.reports.answered(&answer, &mut self.buffers);
-        self.reports.hold(is_status(self.sets, &answer));
         answer
     }
 

@@ -3,14 +3,14 @@
 ghost use Rattle.std.specs.Prelude.{◌≡◌, ◌∷◌, [], ℕ, min, List};
 ghost use Rattle.std.specs.Option.{option_map};
 ghost use Rattle.usb_device.specs.Calls.{EpCall, SetUp, Out, In, Polled, BusReset};
-ghost use Rattle.usb_device.specs.Guarding.{GuardCall, Met, Locked, Scanned, Serves, ScansRows, Else, Brings};
+ghost use Rattle.usb_device.specs.Guarding.{GuardCall, Met, Locked, Scanned, Serves, ScansRows, Else, Brings, most_pace};
 ghost use Rattle.usb_device.specs.representation.Guarded.{Guards};
 
 use crate::guard::{Guard, Passage};
 use crate::{Endpoints, EpAnswer, Report, Works};
 
-/// The longest pace: a host waits 5 seconds for a status stage.
-const MOST_SCANS: u16 = 4000;
+/// The longest pace: a host waits 5 seconds for a status stage (section 9.2.6.1).
+const MOST_PACE: u16 = 4000;
 
 /// A device that reads a matrix.
 pub trait ScansMatrix: Endpoints {
@@ -53,10 +53,10 @@ pub struct Guarded<E> {
 impl<E: Endpoints> Guarded<E> {
     /// The lock is off. The pace is a number of scans, at most 4,000, and 0 for none.
     pub fn new(behind: E, pace: u16) -> Guarded<E>
-        ensures { E.refines [] behind → Guards E.refines (min pace 4000) [] result.guard result.behind }
+        ensures { E.refines [] behind → Guards E.refines (min pace most_pace) [] result.guard result.behind }
     {
         Guarded {
-            guard: Guard::new(pace.min(MOST_SCANS)),
+            guard: Guard::new(pace.min(MOST_PACE)),
             behind,
         }
     }

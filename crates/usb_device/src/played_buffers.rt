@@ -1,8 +1,8 @@
 //! A bus of endpoint 1 that a script plays: the clauses of `Buffers` can be met by buffers that deliver.
 
 ghost use Rattle.std.specs.Prelude.{◌≡◌, [], List, true, false, map, length, ◌≤◌};
-ghost use Rattle.usb_device.specs.Bus1.{agree, begun_if, blank, received};
-ghost use Rattle.usb_device.specs.representation.Played.{got_of, played_bus, Moved};
+ghost use Rattle.usb_device.specs.Bus1.{agree, blank, received};
+ghost use Rattle.usb_device.specs.representation.Played.{begun_if, got_of, played_bus, Moved};
 
 use crate::buffers::Buffers;
 use crate::report_buffers::held;
@@ -33,6 +33,8 @@ pub enum Brought {
     Anew(Endpoint1),
     /// The device gave a report up.
     GivenUp,
+    /// The device knew that the host has begun anew, too.
+    Known,
 }
 
 impl Default for Brought {
@@ -44,7 +46,7 @@ impl Default for Brought {
 /// One buffer of endpoint 1, and its host.
 ///
 /// Each call plays what is next in the script, and then has its effect. The host notes 32 things that it was brought. Where
-/// it has no room it takes no packet, and resets the bus where the device begins anew or gives a report up.
+/// it has no room it takes no packet, and resets the bus where it is to note anything else.
 #[derive(Drop)]
 pub struct PlayedBuffers<'a> {
     script: &'a [Played],
@@ -200,7 +202,15 @@ impl<'a> Buffers for PlayedBuffers<'a> {
 
     fn host_began(&mut self) {
         self.play();
-        self.begin();
+        if !self.opened {
+            return;
+        }
+        if self.got.try_insert(0, Brought::Known).is_ok() {
+            self.host = false;
+            self.opened = false;
+        } else {
+            self.set_back(true);
+        }
     }
 
     fn forget(&mut self) {

@@ -3,13 +3,12 @@
 ghost use Rattle.std.specs.Prelude.{◌≡◌, ◌⊎◌, ◌≤◌, ◌+◌, ◌-◌, ◌/◌, ◌∷◌, ℕ, ◌<◌, nat_lt, suc, length, Bool, true, false, List, [], take, drop, Some, ◌==◌, ◌&&◌};
 ghost use Rattle.usb_device.specs.declared.answer.Endpoint1.{Endpoint1};
 ghost use Rattle.usb_device.specs.Calls.{EpCall, SetUp, In, BusReset, Polled};
-ghost use Rattle.usb_device.specs.Bus1.{Bus1, room_of, reported, anew, blank, Changed, sent_of, is_old, newest, sets_protocol};
+ghost use Rattle.usb_device.specs.Bus1.{Bus1, room_of, reported, anew, blank, Changed, sent_of, is_old, newest, sets_protocol, IsKnown};
 ghost use Rattle.usb_device.specs.Confirmed.{asked_of};
 ghost use Rattle.usb_device.specs.States.{is_empty_packet};
 ghost use Rattle.usb_device.specs.Reports.{count_of};
-ghost use Rattle.usb_device.specs.Waits.{Moment, Held, Scanned, Released};
-ghost use Rattle.usb_device.specs.representation.Waited.{Waited};
-ghost use Rattle.usb_device.specs.representation.Link1.{ReportState, Link1, to_hand, is_more, is_over, is_begun, is_under_way, IsHeld, InStep};
+ghost use Rattle.usb_device.specs.Pauses.{pause_by};
+ghost use Rattle.usb_device.specs.representation.Link1.{ReportState, Link1, to_hand, is_more, is_over, is_begun, is_under_way, IsHeld, InStep, KeepsMarks, KeepsStates};
 ghost use Rattle.usb_device.specs.declared.report_buffers.Course.TheVariants.{Rests, Begins, Goes};
 
 use crate::{Buffers, EpAnswer, PacketSize, Report};
@@ -32,10 +31,9 @@ pub(crate) enum Course {
 
 /// What is known of the buffers, and the report under way.
 ///
-/// A change of endpoint 1 is made before the host knows of it. So no packet is handed over until the host has taken the
-/// status packet, has begun another transfer, or has let 50 scans go by: the acknowledgement may be lost, and then the
-/// device never knows that the host has the packet (section 8.5.3.3). Then the host may want either data toggle, and drops a
-/// packet that has the other one. So the next report is handed over twice, and the host has it whole.
+/// A change of endpoint 1 is made before the host knows of it. So no packet is handed over until the host has taken the status packet,
+/// or has let 50 scans go by: the acknowledgement may be lost, and then the device never knows of it (section 8.5.3.3). Then the host
+/// may want either data toggle, and drops a packet that has the other one. So the next report is handed over twice.
 ///
 /// A request that sets the protocol (HID 1.11 section 7.2.6) gives up a report that waits, as it is of the protocol before, and
 /// the host may have a packet of it. One of which the host is known to have a packet goes on, as the host's transfer does.
@@ -47,7 +45,7 @@ pub struct ReportBuffers {
     rest: Report,
     due: usize,
     again: bool,
-    buffered: usize,
+    buffered: u8,
     unsure: bool,
     lost: bool,
     is_old: bool,
@@ -76,8 +74,15 @@ impl Model for ReportBuffers {
     } };
 }
 
+/// The scans to be waited behind a status packet, where so many are waited before it.
+fn pause(waits: u8) -> u8
+    ensures { result ≡ pause_by true waits }
+{
+    if waits == 0 { STATUS_SCANS } else { waits }
+}
+
 /// How many buffers there are.
-fn room<B: Buffers>(buffers: &B) -> usize
+fn room<B: Buffers>(buffers: &B) -> u8
     ensures { result ≡ room_of B.two }
 {
     if buffers.has_two() { 2 } else { 1 }
@@ -127,7 +132,7 @@ impl ReportBuffers {
     /// Empty buffers that wait for nothing, behind a reset of the bus.
     pub fn new(size: PacketSize) -> ReportBuffers
         ensures linked { Link1 result (blank false) [] }
-        ensures waits { Waited [] result.left }
+        ensures waits { result.left ≡ 0 }
     {
         ReportBuffers {
             size,
@@ -150,32 +155,19 @@ impl ReportBuffers {
     pub fn begin_anew(&mut self)
         ensures linked { (state : Endpoint1) (b : Bus1) (calls : List EpCall) → (self.old.course ≡ Goes → self.old.old ≡ false)
             → Link1 self.old b calls → Link1 self.new (anew b state) calls }
-        ensures waits { (moments : List Moment) → Waited (Held ∷ moments) self.new.left }
+        ensures waits { self.new.left ≡ pause_by true self.old.left }
     {
         self.unsure = true;
         self.lost = false;
-        self.waits = STATUS_SCANS;
+        self.waits = pause(self.waits);
         match self.course {
             Course::Goes => self.course = Course::Begins,
             Course::Rests | Course::Begins => {}
         }
     }
 
-    /// Where this is the status packet of a request, nothing is handed over until `release` or 50 scans: the host does not know
-    /// yet what the request has changed, as SET_PROTOCOL the reports (HID 1.11 section 7.2.6).
-    pub fn hold(&mut self, is_status: bool)
-        ensures linked { (b : Bus1) (calls : List EpCall) → Link1 self.old b calls → Link1 self.new b calls }
-        ensures waits { (moments : List Moment) → is_status ≡ true → Waited (Held ∷ moments) self.new.left }
-        ensures same { is_status ≡ false → self.new ≡ self.old }
-    {
-        if is_status {
-            self.waits = STATUS_SCANS;
-        }
-    }
-
     /// A scan of the matrix, a millisecond after the one before.
     pub fn scan(&mut self)
-        ensures waits { (moments : List Moment) → Waited moments self.old.left → Waited (Scanned ∷ moments) self.new.left }
         ensures less { self.new.left ≡ self.old.left - 1 }
         ensures linked { (b : Bus1) (calls : List EpCall) → Link1 self.old b calls → Link1 self.new b calls }
     {
@@ -184,7 +176,6 @@ impl ReportBuffers {
 
     /// The host has taken the status packet: nothing is waited for.
     pub fn release(&mut self)
-        ensures waits { (moments : List Moment) → Waited (Released ∷ moments) self.new.left }
         ensures linked { (b : Bus1) (calls : List EpCall) → Link1 self.old b calls → Link1 self.new b calls }
         ensures same { self.new ≡ record self.old { left = 0 } }
     {
@@ -192,36 +183,45 @@ impl ReportBuffers {
     }
 
     /// The host has begun anew with DATA0, where the device has: the toggles agree.
-    pub fn agree(&mut self)
-        ensures linked { (b : Bus1) (calls : List EpCall) → (b.opened ≡ true → b.host ≡ false)
-            → Link1 self.old b calls → Link1 self.new b calls }
+    pub fn agree<B: Buffers>(&mut self, buffers: &mut B)
+        ensures linked { (calls : List EpCall) → Link1 self.old (B.bus buffers.old) calls → Link1 self.new (B.bus buffers.new) calls }
+        ensures reported { (states : List Endpoint1) → InStep states (B.bus buffers.old) → InStep states (B.bus buffers.new) }
+        ensures known { ((B.bus buffers.old).reset ≡ false → (B.bus buffers.old).opened ≡ true) → (B.bus buffers.new).reset ≡ false → IsKnown (B.bus buffers.new).got }
         ensures waits { self.new.left ≡ self.old.left }
     {
+        buffers.host_began();
         if !self.lost {
             self.unsure = false;
         }
     }
 
-    /// A SETUP packet has come: nothing is waited for.
+    /// A SETUP packet has come.
     pub fn setup(&mut self, packet: [u8; 8])
-        ensures waits { (moments : List Moment) → Waited (Released ∷ moments) self.new.left }
+        ensures waits { self.new.left ≡ self.old.left }
         ensures linked { (b : Bus1) (calls : List EpCall) → Link1 self.old b calls → Link1 self.new b (SetUp packet ∷ calls) }
     {
-        self.waits = 0;
         self.protocol = sets_protocol(packet);
     }
 
-    /// This was the answer to an IN token of endpoint 0. The empty packet of SET_PROTOCOL sets the protocol.
+    /// This was the answer to an IN token of endpoint 0. The empty packet of SET_PROTOCOL sets the protocol, of which the host is to know.
     pub fn answered<B: Buffers>(&mut self, answer: &EpAnswer, buffers: &mut B)
         ensures linked { (calls : List EpCall) → Link1 self.old (B.bus buffers.old) calls → Link1 self.new (B.bus buffers.new) (In answer.now ∷ calls) }
-        ensures reported { (states : List Endpoint1) → InStep states (B.bus buffers.old) → InStep states (B.bus buffers.new) }
-        ensures waits { self.new.left ≡ self.old.left }
+        ensures reported { KeepsStates (B.bus buffers.old) (B.bus buffers.new) }
+        ensures waits { self.new.left ≡ pause_by (is_empty_packet answer.now && self.old.protocol) self.old.left }
     {
         if self.is_change(answer) {
             let count = buffers.taken_1();
             self.taken(count);
             self.change(buffers);
+            self.wait();
         }
+    }
+
+    /// Nothing is handed over until `release` or 50 scans, where nothing was waited for.
+    fn wait(&mut self)
+        ensures { self.new ≡ record self.old { left = pause_by true self.old.left } }
+    {
+        self.waits = pause(self.waits);
     }
 
     /// Whether this answer sets the protocol.
@@ -243,7 +243,7 @@ impl ReportBuffers {
         ensures linked { (calls later : List EpCall) → sent_of later ≡ Changed ∷ sent_of calls → asked_of later ≡ asked_of calls
             → Link1 self.old (B.bus buffers.old) calls → Link1 self.new (B.bus buffers.new) later }
         ensures goes_on { self.old.course ≡ Goes → is_begun self.old ≡ true → (self.new ≡ record self.old { old = true }) × (buffers.new ≡ buffers.old) }
-        ensures reported { (states : List Endpoint1) → InStep states (B.bus buffers.old) → InStep states (B.bus buffers.new) }
+        ensures reported { KeepsStates (B.bus buffers.old) (B.bus buffers.new) }
         ensures waits { self.new.left ≡ self.old.left }
     {
         match self.course {
@@ -264,7 +264,8 @@ impl ReportBuffers {
         ensures linked { (calls : List EpCall) → Link1 self.old (B.bus buffers.old) calls → Link1 self.new (B.bus buffers.new) calls }
         ensures none { self.new.course ≡ Goes → self.new.old ≡ false }
         ensures others { self.old.old ≡ false → (self.new ≡ self.old) × (buffers.new ≡ buffers.old) }
-        ensures reported { (states : List Endpoint1) → InStep states (B.bus buffers.old) → InStep states (B.bus buffers.new) }
+        ensures waits { self.new.left ≡ self.old.left }
+        ensures reported { KeepsStates (B.bus buffers.old) (B.bus buffers.new) }
     {
         match self.course {
             Course::Goes => {
@@ -282,7 +283,7 @@ impl ReportBuffers {
             → ((self.old.course ≡ Goes → is_old (sent_of calls) ≡ self.old.old) → is_old (sent_of later) ≡ true)
             → newest (sent_of later) ≡ newest (sent_of calls) → asked_of later ≡ asked_of calls
             → Link1 self.old (B.bus buffers.old) calls → Link1 self.new (B.bus buffers.new) later }
-        ensures reported { (states : List Endpoint1) → InStep states (B.bus buffers.old) → InStep states (B.bus buffers.new) }
+        ensures reported { KeepsStates (B.bus buffers.old) (B.bus buffers.new) }
         ensures waits { self.new.left ≡ self.old.left }
         ensures rests { self.new.course ≡ Rests }
     {
@@ -301,13 +302,13 @@ impl ReportBuffers {
     fn is_begun(&self) -> bool
         ensures { result ≡ is_begun self.now }
     {
-        !self.again && self.buffered < self.count().saturating_sub(self.due)
+        !self.again && (self.buffered as usize) < self.count().saturating_sub(self.due)
     }
 
     /// A reset of the bus. The report under way is dropped, as the host has forgotten what it knew.
     pub fn reset(&mut self)
         ensures linked { (calls : List EpCall) → Link1 self.new (blank false) (BusReset ∷ calls) }
-        ensures waits { (moments : List Moment) → Waited (Released ∷ moments) self.new.left }
+        ensures waits { self.new.left ≡ 0 }
     {
         self.course = Course::Rests;
         self.unsure = false;
@@ -322,7 +323,7 @@ impl ReportBuffers {
             → Link1 self.new (reported b) calls }
         ensures waits { self.new.left ≡ self.old.left }
     {
-        self.buffered = self.buffered.saturating_sub(count);
+        self.buffered = (self.buffered as usize).saturating_sub(count) as u8;
         match self.course {
             Course::Goes => {
                 if self.is_over() {
@@ -387,8 +388,7 @@ impl ReportBuffers {
     pub fn fill<B: Buffers>(&mut self, buffers: &mut B)
         ensures linked { (calls : List EpCall) → Link1 self.old (B.bus buffers.old) calls → Link1 self.new (B.bus buffers.new) calls }
         ensures held { (self.new.course ≡ Goes) × IsHeld (room_of B.two) self.new ⊎ (self.old.course ≡ Rests) × (buffers.new ≡ buffers.old) × (self.new ≡ self.old) }
-        ensures reported { (states : List Endpoint1) (calls : List EpCall) → Link1 self.old (B.bus buffers.old) calls
-            → InStep states (B.bus buffers.old) → InStep states (B.bus buffers.new) }
+        ensures marks { (calls : List EpCall) → Link1 self.old (B.bus buffers.old) calls → KeepsMarks (B.bus buffers.old) (B.bus buffers.new) }
         ensures waits { self.new.left ≡ self.old.left }
     {
         match self.course {
@@ -410,8 +410,8 @@ impl ReportBuffers {
             → Link1 self.new (B.bus buffers.new) calls }
         ensures goes { self.new.course ≡ Goes }
         ensures one { self.new.buffered ≡ 1 }
-        ensures reported { (states : List Endpoint1) (calls : List EpCall) → self.old.course ≡ Begins → Link1 self.old (B.bus buffers.old) calls
-            → InStep states (B.bus buffers.old) → InStep states (B.bus buffers.new) }
+        ensures marks { (calls : List EpCall) → self.old.course ≡ Begins → Link1 self.old (B.bus buffers.old) calls
+            → KeepsMarks (B.bus buffers.old) (B.bus buffers.new) }
         ensures waits { self.new.left ≡ self.old.left }
     {
         self.restart();
@@ -428,8 +428,8 @@ impl ReportBuffers {
         ensures goes { self.new.course ≡ self.old.course }
         ensures none { IsHeld (room_of B.two) self.old → self.new ≡ self.old }
         ensures more { (self.new ≡ self.old) × IsHeld (room_of B.two) self.old ⊎ (self.new.buffered ≡ self.old.buffered + 1) }
-        ensures reported { (states : List Endpoint1) (calls : List EpCall) → self.old.course ≡ Goes → Link1 self.old (B.bus buffers.old) calls
-            → InStep states (B.bus buffers.old) → InStep states (B.bus buffers.new) }
+        ensures marks { (calls : List EpCall) → self.old.course ≡ Goes → Link1 self.old (B.bus buffers.old) calls
+            → KeepsMarks (B.bus buffers.old) (B.bus buffers.new) }
         ensures waits { self.new.left ≡ self.old.left }
     {
         if self.buffered < room(buffers) && self.is_more() {
@@ -462,7 +462,7 @@ impl ReportBuffers {
     fn count(&self) -> usize
         ensures { result ≡ count_of self.now.size self.now.report }
     {
-        self.report.len().saturating_sub(1) / self.size.bytes() + 1
+        usize::from(self.report.len().saturating_sub(1) as u8) / self.size.bytes() + 1
     }
 
     /// The next packet of the report.

@@ -73,7 +73,8 @@ pub(crate) fn packet_of_text(text: &[u16], asked: u16, index: u16) -> Option<Arr
 {
     let asked = usize::from(asked);
     let units = &text[..held_count(text)];
-    let sent = (2 + 2 * units.len()).min(asked);
+    let length = 2 + 2 * units.len() as u8;
+    let sent = usize::from(length).min(asked);
     let start = 8 * usize::from(index);
     if start < sent {
         Some(bytes_between(units, start, sent.min(start + 8)))

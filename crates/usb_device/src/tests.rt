@@ -89,6 +89,7 @@ fn a_report_comes_once_where_an_acknowledgement_is_lost(rt: HostRuntime) {
     let got = [
         Brought::New(bytes_of(1, 4)),
         Brought::New(bytes_of(1, 8)),
+        Brought::Known,
         Brought::Anew(Endpoint1::Ready),
     ];
     assert_eq!(rt; device.buffers.got(), &got[..]);
@@ -113,6 +114,7 @@ fn a_report_is_given_up_by_a_reset(rt: HostRuntime) {
     let got = [
         Brought::New(bytes_of(2, 4)),
         Brought::New(bytes_of(2, 8)),
+        Brought::Known,
         Brought::Anew(Endpoint1::Ready),
     ];
     assert_eq!(rt; device.buffers.got(), &got[..]);
@@ -141,6 +143,7 @@ fn a_report_that_waits_is_given_up_with_its_protocol(rt: HostRuntime) {
         Brought::New(bytes_of(2, 4)),
         Brought::New(bytes_of(2, 8)),
         Brought::GivenUp,
+        Brought::Known,
         Brought::Anew(Endpoint1::Ready),
     ];
     assert_eq!(rt; device.buffers.got(), &got[..]);
@@ -163,6 +166,7 @@ fn a_report_of_which_the_host_has_a_packet_goes_on(rt: HostRuntime) {
     let got = [
         Brought::New(bytes_of(1, 4)),
         Brought::New(bytes_of(1, 8)),
+        Brought::Known,
         Brought::Anew(Endpoint1::Ready),
     ];
     assert_eq!(rt; device.buffers.got(), &got[..]);

@@ -8,10 +8,12 @@ ghost use Rattle.usb_device.specs.Events.{Event};
 ghost use Rattle.usb_device.specs.Steps.{AllAnswered, session, state_of};
 ghost use Rattle.usb_device.specs.States.{endpoint_by, has_renewed, wakeup_by};
 ghost use Rattle.usb_device.specs.Through.{calls_of};
-ghost use Rattle.usb_device.specs.Bus.{Bus, Seen, InGot, Naks, NaksOut, nothing_met, is_write, setup_of, write_of};
+ghost use Rattle.usb_device.specs.Bus.{Bus, Seen, InGot, Naks, NaksOut, nothing_met, is_pending, is_write, setup_of, write_of};
 ghost use Rattle.usb_device.specs.Bus1.{Bus1, sent_of, no_polls};
+ghost use Rattle.usb_device.specs.Answered.{AllStalled, WasAnswered, served_in};
+ghost use Rattle.usb_device.specs.Given.{got_of, WereGiven};
 ghost use Rattle.usb_device.specs.Reports.{GotInOrder};
-ghost use Rattle.usb_device.specs.Waits.{Moment, is_waiting, scans_last};
+ghost use Rattle.usb_device.specs.Pauses.{Ends, pause_of, scans_in};
 ghost use Rattle.usb_device.specs.representation.Link1.{ReportState, Link1};
 ghost use Rattle.usb_device.specs.Confirmed.{ConfirmedBefore, asked_of, three_writes, last_is_lost};
 ghost use Rattle.usb_device.specs.Transfers.{TransferState, Idle, NothingWithheld0};
@@ -20,7 +22,7 @@ ghost use Rattle.usb_device.specs.representation.Link.{Link};
 /// A controller with empty buffers, before a device that was not asked, is where it begins.
 pub fn begins()
     ensures linked { Link Idle (record { seen = []; input = Naks; output = NaksOut; met = nothing_met }) [] }
-    ensures rests { NothingWithheld0 Idle (record { seen = []; input = Naks; output = NaksOut; met = nothing_met }) [] }
+    ensures rests { NothingWithheld0 Idle (record { seen = []; input = Naks; output = NaksOut; met = nothing_met }) }
 {}
 
 /// A control write that the host saw the end of was confirmed by the device: the host sent this SETUP packet, the controller
@@ -54,6 +56,20 @@ pub fn confirmed_on_the_bus()
         → ConfirmedBefore after setup data_ (session lent past) }
 {}
 
+/// Whatever the host got on endpoint 0, the device had given: in the transfer of just this SETUP packet just these packets, newest
+/// first, none left out and none added, whatever was lost on the way and whatever came since. So a read of what the layer serves brings
+/// its bytes from the first on, at most wLength of them, and all of these where it ends; any other brings what the device behind gave.
+pub fn got_is_answered()
+    ensures given { (t : TransferState) (b : Bus) (calls : List EpCall) (after before : List Seen) (setup packet : List ℕ)
+        → Link t b calls → b.seen ≡ after ++ (InGot packet ∷ before) → setup_of before ≡ Some setup → WereGiven setup (packet ∷ got_of before) calls }
+    ensures answered { (t : TransferState) (b : Bus) (calls : List EpCall) (lent : Lent) (past : List Event) (after before : List Seen) (setup packet : List ℕ)
+        → Link t b calls → AllAnswered lent past → no_polls (calls_of past) ≡ no_polls calls
+        → b.seen ≡ after ++ (InGot packet ∷ before) → setup_of before ≡ Some setup → WasAnswered lent past setup (packet ∷ got_of before) }
+    // so a request that the layer leaves, and that the device behind stalls, brings nothing
+    ensures stalled { (t : TransferState) (b : Bus) (calls : List EpCall) (lent : Lent) (past : List Event) → Link t b calls → is_pending b.met ≡ false
+        → AllAnswered lent past → no_polls (calls_of past) ≡ no_polls calls → served_in lent past ≡ None → AllStalled (session lent past) → got_of b.seen ≡ [] }
+{}
+
 /// What endpoint 1 is, is what the last completed request says that sets it.
 pub fn endpoint_is_looked_back()
     ensures { (lent : Lent) (past : List Event) → AllAnswered lent past → (state_of lent past).endpoint ≡ endpoint_by lent past }
@@ -79,9 +95,7 @@ pub fn reports_are_got_in_order()
 
 /// What `ReportBuffers` asks of the device is nothing to endpoint 0.
 pub fn a_poll_is_nothing_to_endpoint_0()
-    ensures linked { (t : TransferState) (b : Bus) (answer : Option (List ℕ)) (calls : List EpCall) → Link t b calls → Link t b (Polled answer ∷ calls) }
-    ensures rests { (t : TransferState) (b : Bus) (answer : Option (List ℕ)) (calls : List EpCall) → NothingWithheld0 t b calls
-        → NothingWithheld0 t b (Polled answer ∷ calls) }
+    ensures { (t : TransferState) (b : Bus) (answer : Option (List ℕ)) (calls : List EpCall) → Link t b calls → Link t b (Polled answer ∷ calls) }
 {}
 
 /// A transfer that does not set the protocol is nothing to endpoint 1.
@@ -96,8 +110,9 @@ pub fn a_string_is_cut_at_a_character()
     ensures { (text : List ℕ) → Utf16 text → Utf16 (held_units text) }
 {}
 
-/// Endpoint 1 waits for the host at most 50 scans.
-#[tactic(auto, using(crate::proofs::Scans::at_most_50))]
+/// Endpoint 1 waits for the host at most 50 scans: in so many there is a moment at which it waits for nothing, whatever the host asks.
+#[tactic(auto, using(crate::proofs::Pausing::at_most_50, crate::proofs::Pausing::ends))]
 pub fn endpoint_1_waits_at_most_50_scans()
-    ensures { (moments : List Moment) → 50 ≤ scans_last moments → is_waiting moments ≡ false }
+    ensures left { (lent : Lent) (past : List Event) → pause_of lent past ≤ 50 }
+    ensures ends { (lent : Lent) (since before : List Event) → 50 ≤ scans_in since → Ends lent since before }
 {}

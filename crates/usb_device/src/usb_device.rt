@@ -1,14 +1,14 @@
 //! A device with its layer and its buffers, behind a controller: what a loop calls.
 
-ghost use Rattle.std.specs.Prelude.{◌≡◌, ◌≤◌, ◌-◌, ◌∷◌, ◌++◌, [], true, false, ℕ, List};
+ghost use Rattle.std.specs.Prelude.{◌≡◌, ◌∷◌, ◌++◌, [], true, false, ℕ, List};
 ghost use Rattle.usb_device.specs.Calls.{EpCall};
 ghost use Rattle.usb_device.specs.Addresses.{Addressed, Tells};
 ghost use Rattle.usb_device.specs.Bus.{Bus, Goes};
-ghost use Rattle.usb_device.specs.Bus1.{KeptOrReset, blank, room_of};
+ghost use Rattle.usb_device.specs.Bus1.{KeptOrReset, blank, room_of, IsKnown};
 ghost use Rattle.usb_device.specs.Requests.{Lent};
 ghost use Rattle.usb_device.specs.Served.{Looks};
-ghost use Rattle.usb_device.specs.Pauses.{AreMet, ServesReports, pause_of};
-ghost use Rattle.usb_device.specs.Events.{Event, SuspendCame, ResumeCame, WakeAsked};
+ghost use Rattle.usb_device.specs.Pauses.{AreMet, ArePolls, KnowsHost, ServesReports, seen_if};
+ghost use Rattle.usb_device.specs.Events.{Event, SuspendCame, ResumeCame, WakeAsked, ScanCame};
 ghost use Rattle.usb_device.specs.States.{wakes_by};
 ghost use Rattle.usb_device.specs.Through.{calls_of};
 ghost use Rattle.usb_device.specs.Transfers.{Idle, is_done};
@@ -130,10 +130,10 @@ impl<'a, E: Endpoints, B: Buffers> UsbDevice<'a, E, B> {
 
     /// A scan of the matrix, a millisecond after the one before.
     pub fn scan(&mut self)
-        ensures runs { (b : Bus) (calls : List EpCall) (lent : Lent) (past : List Event)
-            → Runs E.refines self.old.control b calls lent past self.old.device.layer self.old.device.behind self.old.device.reports (B.bus self.old.device.buffers)
-            → Runs E.refines self.new.control b calls lent past self.new.device.layer self.new.device.behind self.new.device.reports (B.bus self.new.device.buffers) }
-        ensures waits { self.new.device.reports.left ≡ self.old.device.reports.left - 1 }
+        ensures goes_on { (lent : Lent) (past : List Event)
+            → Layered E.refines lent past self.old.device.layer self.old.device.behind self.old.device.reports (B.bus self.old.device.buffers)
+            → Layered E.refines lent (ScanCame ∷ past) self.new.device.layer self.new.device.behind self.new.device.reports (B.bus self.new.device.buffers) }
+        ensures same { self.new.control ≡ self.old.control }
         ensures behind { self.new.device.behind ≡ self.old.device.behind }
     {
         self.device.scan();
@@ -153,14 +153,14 @@ impl<'a, E: Endpoints, B: Buffers> UsbDevice<'a, E, B> {
             (B.bus self.new.device.buffers) (calls_of since)
             × Addressed (is_done self.new.control) self.new.device.layer.due (C.bus controller.new).met.reset calls later (C.address_of controller.old) (C.address_of controller.new)
             × KeptOrReset calls later
-            × Looks self.new.control (C.bus controller.old) (C.bus controller.new) calls later }
+            × Looks (C.bus controller.old) (C.bus controller.new) calls later }
         ensures goes_on { (lent : Lent) (past : List Event)
             → Layered E.refines lent past self.old.device.layer self.old.device.behind self.old.device.reports (B.bus self.old.device.buffers)
-            → (since : List Event)
-            × Layered E.refines lent (since ++ past) self.new.device.layer self.new.device.behind self.new.device.reports (B.bus self.new.device.buffers)
-            × AreMet since × (self.new.device.reports.left ≤ pause_of self.old.device.reports.left since)
-            × ServesReports (may_send (is_ready self.new.device.layer.endpoint) self.new.device.reports.left) (B.bus self.new.device.buffers) since }
-        ensures released { is_done self.new.control ≡ true → self.new.device.reports.left ≡ 0 }
+            → (met asked : List Event)
+            × Layered E.refines lent (asked ++ seen_if (is_done self.new.control) (met ++ past)) self.new.device.layer self.new.device.behind self.new.device.reports (B.bus self.new.device.buffers)
+            × AreMet met × ArePolls asked
+            × ServesReports lent (asked ++ seen_if (is_done self.new.control) (met ++ past)) (B.bus self.new.device.buffers) asked
+            × KnowsHost (is_done self.new.control) lent past (asked ++ seen_if (is_done self.new.control) (met ++ past)) (B.bus self.old.device.buffers) (B.bus self.new.device.buffers) }
         ensures kept { (from : E) → E.keeps from self.old.device.behind → E.keeps from self.new.device.behind }
     {
         self.control.serve(&mut self.device, controller);
@@ -172,9 +172,10 @@ impl<'a, E: Endpoints, B: Buffers> UsbDevice<'a, E, B> {
     /// The bus is suspended: the controller saw it idle for 3 ms (section 7.1.7.6). Address and configuration stay. `resumed`, a SETUP
     /// packet and a reset of the bus end it.
     pub fn suspended(&mut self)
-        ensures runs { (b : Bus) (calls : List EpCall) (lent : Lent) (past : List Event)
-            → Runs E.refines self.old.control b calls lent past self.old.device.layer self.old.device.behind self.old.device.reports (B.bus self.old.device.buffers)
-            → Runs E.refines self.new.control b calls lent (SuspendCame ∷ past) self.new.device.layer self.new.device.behind self.new.device.reports (B.bus self.new.device.buffers) }
+        ensures goes_on { (lent : Lent) (past : List Event)
+            → Layered E.refines lent past self.old.device.layer self.old.device.behind self.old.device.reports (B.bus self.old.device.buffers)
+            → Layered E.refines lent (SuspendCame ∷ past) self.new.device.layer self.new.device.behind self.new.device.reports (B.bus self.new.device.buffers) }
+        ensures same { self.new.control ≡ self.old.control }
         ensures behind { self.new.device.behind ≡ self.old.device.behind }
     {
         self.device.suspend();
@@ -182,9 +183,10 @@ impl<'a, E: Endpoints, B: Buffers> UsbDevice<'a, E, B> {
 
     /// The bus goes on: the controller saw it resume (section 7.1.7.7).
     pub fn resumed(&mut self)
-        ensures runs { (b : Bus) (calls : List EpCall) (lent : Lent) (past : List Event)
-            → Runs E.refines self.old.control b calls lent past self.old.device.layer self.old.device.behind self.old.device.reports (B.bus self.old.device.buffers)
-            → Runs E.refines self.new.control b calls lent (ResumeCame ∷ past) self.new.device.layer self.new.device.behind self.new.device.reports (B.bus self.new.device.buffers) }
+        ensures goes_on { (lent : Lent) (past : List Event)
+            → Layered E.refines lent past self.old.device.layer self.old.device.behind self.old.device.reports (B.bus self.old.device.buffers)
+            → Layered E.refines lent (ResumeCame ∷ past) self.new.device.layer self.new.device.behind self.new.device.reports (B.bus self.new.device.buffers) }
+        ensures same { self.new.control ≡ self.old.control }
         ensures behind { self.new.device.behind ≡ self.old.device.behind }
     {
         self.device.resume();
@@ -195,11 +197,12 @@ impl<'a, E: Endpoints, B: Buffers> UsbDevice<'a, E, B> {
     ///
     /// The driver signals K for 1 to 15 ms, and not before the bus was idle for 5 ms.
     pub fn wakes(&mut self) -> bool
-        ensures runs { (b : Bus) (calls : List EpCall) (lent : Lent) (past : List Event)
-            → Runs E.refines self.old.control b calls lent past self.old.device.layer self.old.device.behind self.old.device.reports (B.bus self.old.device.buffers)
-            → Runs E.refines self.new.control b calls lent (WakeAsked (report_waits self.old.device.layer self.old.device.reports) result ∷ past) self.new.device.layer self.new.device.behind self.new.device.reports (B.bus self.new.device.buffers) }
-        ensures answer { (b : Bus) (calls : List EpCall) (lent : Lent) (past : List Event)
-            → Runs E.refines self.old.control b calls lent past self.old.device.layer self.old.device.behind self.old.device.reports (B.bus self.old.device.buffers)
+        ensures goes_on { (lent : Lent) (past : List Event)
+            → Layered E.refines lent past self.old.device.layer self.old.device.behind self.old.device.reports (B.bus self.old.device.buffers)
+            → Layered E.refines lent (WakeAsked (report_waits self.old.device.layer self.old.device.reports) result ∷ past) self.new.device.layer self.new.device.behind self.new.device.reports (B.bus self.new.device.buffers) }
+        ensures same { self.new.control ≡ self.old.control }
+        ensures answer { (lent : Lent) (past : List Event)
+            → Layered E.refines lent past self.old.device.layer self.old.device.behind self.old.device.reports (B.bus self.old.device.buffers)
             → result ≡ wakes_by lent past (report_waits self.old.device.layer self.old.device.reports) }
         ensures behind { self.new.device.behind ≡ self.old.device.behind }
     {
@@ -221,10 +224,10 @@ impl<'a, E: Endpoints, B: Buffers> UsbDevice<'a, E, B> {
     fn settle(&mut self)
         ensures refines { (lent : Lent) (past : List Event)
             → Layered E.refines lent past self.old.device.layer self.old.device.behind self.old.device.reports (B.bus self.old.device.buffers)
-            → Layered E.refines lent past self.new.device.layer self.new.device.behind self.new.device.reports (B.bus self.new.device.buffers) }
-        ensures known { is_done self.old.control ≡ false → self.new ≡ self.old }
-        ensures waits { self.new.device.reports.left ≤ self.old.device.reports.left }
-        ensures released { is_done self.new.control ≡ true → self.new.device.reports.left ≡ 0 }
+            → Layered E.refines lent (seen_if (is_done self.new.control) past) self.new.device.layer self.new.device.behind self.new.device.reports (B.bus self.new.device.buffers) }
+        ensures agreed { is_done self.new.control ≡ true → self.old.device.layer.renewed ≡ true
+            → ((B.bus self.old.device.buffers).reset ≡ false → (B.bus self.old.device.buffers).opened ≡ true)
+            → (B.bus self.new.device.buffers).reset ≡ false → IsKnown (B.bus self.new.device.buffers).got }
         ensures same { self.new.control ≡ self.old.control }
         ensures behind { self.new.device.behind ≡ self.old.device.behind }
     {
@@ -238,9 +241,10 @@ impl<'a, E: Works, B: Buffers> UsbDevice<'a, E, B> {
     /// A step of the work of the device behind, which is nothing to the bus.
     pub fn work(&mut self)
         ensures made { E.works self.old.device.behind self.new.device.behind }
-        ensures runs { (b : Bus) (calls : List EpCall) (lent : Lent) (past : List Event)
-            → Runs E.Endpoints.refines self.old.control b calls lent past self.old.device.layer self.old.device.behind self.old.device.reports (B.bus self.old.device.buffers)
-            → Runs E.Endpoints.refines self.new.control b calls lent past self.new.device.layer self.new.device.behind self.new.device.reports (B.bus self.new.device.buffers) }
+        ensures goes_on { (lent : Lent) (past : List Event)
+            → Layered E.Endpoints.refines lent past self.old.device.layer self.old.device.behind self.old.device.reports (B.bus self.old.device.buffers)
+            → Layered E.Endpoints.refines lent past self.new.device.layer self.new.device.behind self.new.device.reports (B.bus self.new.device.buffers) }
+        ensures same { self.new.control ≡ self.old.control }
     {
         self.device.behind.work();
     }
@@ -250,10 +254,10 @@ impl<'a, E: ScansMatrix, B: Buffers> UsbDevice<'a, E, B> {
     /// A scan of the matrix with these rows, a millisecond after the one before.
     pub fn scan_rows(&mut self, rows: [u16; 6])
         ensures made { E.scans self.old.device.behind rows self.new.device.behind }
-        ensures runs { (b : Bus) (calls : List EpCall) (lent : Lent) (past : List Event)
-            → Runs E.Endpoints.refines self.old.control b calls lent past self.old.device.layer self.old.device.behind self.old.device.reports (B.bus self.old.device.buffers)
-            → Runs E.Endpoints.refines self.new.control b calls lent past self.new.device.layer self.new.device.behind self.new.device.reports (B.bus self.new.device.buffers) }
-        ensures waits { self.new.device.reports.left ≡ self.old.device.reports.left - 1 }
+        ensures goes_on { (lent : Lent) (past : List Event)
+            → Layered E.Endpoints.refines lent past self.old.device.layer self.old.device.behind self.old.device.reports (B.bus self.old.device.buffers)
+            → Layered E.Endpoints.refines lent (ScanCame ∷ past) self.new.device.layer self.new.device.behind self.new.device.reports (B.bus self.new.device.buffers) }
+        ensures same { self.new.control ≡ self.old.control }
     {
         self.scan();
         self.device.behind.scan(rows);
@@ -266,9 +270,10 @@ impl<'a, E: Endpoints, B: Buffers> UsbDevice<'a, Guarded<E>, B> {
         ensures reported { (pace : ℕ) (past : List GuardCall)
             → Guards E.refines pace past self.old.device.behind.guard self.old.device.behind.behind
             → Guards E.refines pace (Locked on ∷ past) self.new.device.behind.guard self.new.device.behind.behind }
-        ensures runs { (b : Bus) (calls : List EpCall) (lent : Lent) (past : List Event)
-            → Runs (guarded_refines E.refines) self.old.control b calls lent past self.old.device.layer self.old.device.behind self.old.device.reports (B.bus self.old.device.buffers)
-            → Runs (guarded_refines E.refines) self.new.control b calls lent past self.new.device.layer self.new.device.behind self.new.device.reports (B.bus self.new.device.buffers) }
+        ensures goes_on { (lent : Lent) (past : List Event)
+            → Layered (guarded_refines E.refines) lent past self.old.device.layer self.old.device.behind self.old.device.reports (B.bus self.old.device.buffers)
+            → Layered (guarded_refines E.refines) lent past self.new.device.layer self.new.device.behind self.new.device.reports (B.bus self.new.device.buffers) }
+        ensures same { self.new.control ≡ self.old.control }
     {
         self.device.behind.set_locked(on);
     }

@@ -12,3 +12,4 @@ pub mod Receiving
 pub mod Faults
 pub mod Writing
 pub mod Forgotten
+pub mod Refusing

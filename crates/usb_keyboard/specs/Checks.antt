@@ -9,7 +9,7 @@ use Rattle.control_ep.specs.declared.why.Why.TheVariants.{WrongStage}
 use Rattle.control_ep.specs.Answers.{received_report, report_step}
 use Rattle.control_ep.specs.Requests.{request_of, transfer_of}
 use Rattle.control_ep.specs.Transfers.{HostReport, Transfer, Reads, Takes, Sets}
-use Rattle.keyboard.specs.Calls.{Call, image_after}
+use Rattle.keyboard.specs.Calls.{Call, SetUp, BusReset, image_after}
 use Rattle.keyboard.specs.Commands.{working}
 use Rattle.keyboard.specs.Endpoint.{view_after}
 use Rattle.keyboard.specs.Conforming.{OutAnswer}
@@ -50,6 +50,14 @@ module _ (defaults : DefaultCodes) where
   pub record IsChecked (start : Bytes) (past : List Call) (setup data_ : Bytes) (answer : Answer) : Type 0 where
     pub given : WriteAnswer start past setup data_ answer
     pub only : (other : Answer) → WriteAnswer start past setup data_ other → other ≡ answer
+
+module _ (defaults : DefaultCodes) where
+  -- the tables of requests refuse the SETUP packet of the transfer under way (USB 2.0 section 9.2.7)
+  abbrev pub IsRefused : Bytes → List Call → Type 0
+  IsRefused start [] = ⊥
+  IsRefused start (SetUp bytes ∷ before) = (why : Why) × (transfer_of (request_of bytes) (view_after defaults start before) ≡ Err why)
+  IsRefused start (BusReset ∷ before) = ⊥
+  IsRefused start (_ ∷ before) = IsRefused start before
 
 -- how a write fails by this answer of its checks. One that they accept is refused for a fault of the flash alone: never where it was
 -- healthy, or answered none in the call

@@ -1,6 +1,6 @@
 //! What a host saw the end of, in the session of the keyboard and on its flash.
 
-ghost use Rattle.std.specs.Prelude.{◌≡◌, ◌<◌, ◌≤◌, ◌+◌, ◌*◌, ◌∷◌, ◌++◌, [], ℕ, true, List, Some, length};
+ghost use Rattle.std.specs.Prelude.{◌≡◌, ◌<◌, ◌≤◌, ◌+◌, ◌*◌, ◌∷◌, ◌++◌, [], ℕ, true, false, List, None, Some, length};
 ghost use Rattle.layers.specs.Codes.{layers, keys, DefaultCodes};
 ghost use Rattle.layers.specs.Entries.{written};
 ghost use Rattle.layers.specs.declared.command.Command.{Command};
@@ -9,7 +9,9 @@ ghost use Rattle.keyboard.specs.Calls.{Call};
 ghost use Rattle.keyboard.specs.Commands.{accepted};
 ghost use Rattle.keyboard.specs.Conforming.{IsConforming};
 ghost use Rattle.keyboard.specs.representation.Value.{KeyboardValue};
-ghost use Rattle.usb_device.specs.Bus.{Bus, Seen, InGot, is_write, setup_of, write_of};
+ghost use Rattle.usb_device.specs.Answered.{AllStalled, served_in};
+ghost use Rattle.usb_device.specs.Bus.{Bus, Seen, InGot, is_pending, is_write, setup_of, write_of};
+ghost use Rattle.usb_device.specs.Given.{got_of};
 ghost use Rattle.usb_device.specs.Bus1.{no_polls};
 ghost use Rattle.usb_device.specs.Calls.{EpCall};
 ghost use Rattle.usb_device.specs.Confirmed.{ConfirmedBefore, WasConfirmed};
@@ -21,8 +23,10 @@ ghost use Rattle.usb_device.specs.Through.{calls_of};
 ghost use Rattle.usb_device.specs.Transfers.{TransferState};
 ghost use Rattle.usb_device.specs.representation.Link.{Link};
 ghost use Rattle.usb_device.specs.Forgetting.{Shows};
+ghost use Rattle.usb_keyboard.specs.Checks.{IsRefused};
 ghost use Rattle.usb_keyboard.specs.Plain.{usb_calls};
-ghost use Rattle.usb_keyboard.specs.Stored.{Brings, Session, Follow, NoneSent, NoneWrites, HasNow, Has};
+ghost use Rattle.keyboard.specs.Sessions.{Session, Follow};
+ghost use Rattle.usb_keyboard.specs.Stored.{Brings, NoneSent, NoneWrites, HasNow, Has};
 ghost use Rattle.usb_keyboard.specs.representation.Relation.{RefinesUsb, IsStored};
 
 /// A feature command that the bus saw the end of is confirmed in the session of the keyboard, and settled.
@@ -39,7 +43,7 @@ pub fn stored_until_written()
         → (c : IsConfirmed past before command) → layer < layers → key < keys → written defaults command layer key ≡ Some code
         → NoneAcceptedWrites defaults (c.after ++ confirmation ∷ c.between) (c.packet ∷ before) layer key → Has defaults start past layer key code }
     ensures later { (defaults : DefaultCodes) (since earlier : List Session) (session : Session) (layer key code : ℕ) → Follow defaults (since ++ session ∷ earlier)
-        → layer < layers → key < keys → NoneWrites defaults since layer key → Has defaults session.start session.calls layer key code
+        → layer < layers → key < keys → NoneWrites defaults since layer key → Has defaults session.first session.past layer key code
         → HasNow defaults (since ++ session ∷ earlier) layer key code }
 {}
 
@@ -65,6 +69,16 @@ pub fn seen_is_stored()
     ensures until_sent { (defaults : DefaultCodes) (later : List Seen) (keyboard : KeyboardValue) (image : List ℕ) (command : Command) (layer key code : ℕ)
         → (stored : IsStored defaults later keyboard image command) → layer < layers → key < keys → written defaults command layer key ≡ Some code
         → NoneSent defaults later layer key → Has defaults stored.start stored.past layer key code }
+{}
+
+/// A request that neither the layer nor the tables of the keyboard serve (USB 2.0 section 9.2.7) is stalled in the session of the keyboard,
+/// packet by packet, and brings the host nothing.
+pub fn refused_requests_bring_nothing()
+    ensures stalled { (defaults : DefaultCodes) (start : List ℕ) (past : List Call) → IsConforming defaults start past → IsRefused defaults start past
+        → AllStalled (usb_calls past) }
+    ensures on_the_bus { (defaults : DefaultCodes) (t : TransferState) (b : Bus) (calls : List EpCall) (lent : Lent) (past : List Event) (start : List ℕ) (keyboard : List Call)
+        → Link t b calls → is_pending b.met ≡ false → AllAnswered lent past → no_polls (calls_of past) ≡ no_polls calls → served_in lent past ≡ None
+        → IsConforming defaults start keyboard → usb_calls keyboard ≡ session lent past → IsRefused defaults start keyboard → got_of b.seen ≡ [] }
 {}
 
 /// The same where polls are answered between, by reports without usages that let a host forget: what such a session confirms is

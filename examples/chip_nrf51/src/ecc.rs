@@ -21,8 +21,8 @@ pub fn flash() -> Option<Flash> {
     Some(PairedFlash::mount(UnitFlash::new(Ecc(Nvmc), START, PAGES).ok()?))
 }
 
-/// The check cells that each byte of a unit turns, where bits of it are clear: of each bit an odd number, three or more, and other
-/// ones than any other bit, so that one wrong cell turns an odd number of checks, and two an even one.
+/// The check cells that each byte of a unit turns by its clear bits. Each bit turns an odd number of them, three or more, and no two
+/// bits the same ones. So one wrong cell turns an odd number of checks, and two wrong cells an even number.
 static TURNS: [[u8; 256]; 8] = turns();
 
 const fn turns() -> [[u8; 256]; 8] {

@@ -12,7 +12,7 @@ use wuzhikar::UnstartedKeyboardOf;
 /// The keyboard, which starts in place.
 pub static mut MEMORY: UnstartedKeyboardOf<Codes> = UnstartedKeyboardOf::NEW;
 
-/// Added to an address of a register: a one that is written is set, or cleared.
+/// The offsets of a register's aliases: each bit that is written as 1 there is set, or cleared.
 const SET: usize = 0x2000;
 const CLEAR: usize = 0x3000;
 

@@ -48,8 +48,8 @@ fn operate<C: Calls>(calls: &C, offset: u32, page: Option<&[u8; PAGE as usize]>)
 /// The driver.
 pub struct Flash<C>(pub C);
 
-/// The log's pages, blank or as a start before left them. Other data are taken for those of a plain log; of a damaged flash there
-/// are none.
+/// Returns the log's pages: blank ones, or those that an earlier start left. Other data are taken for a plain log. `None` if
+/// the flash is damaged.
 pub fn pages<C: Calls>(calls: C) -> Option<SteadyFlash<MarkedUnits<Flash<C>>>> {
     SteadyFlash::take_over(MarkedUnits::new(Flash(calls), START, PAGES).ok()?).ok()
 }
@@ -71,7 +71,7 @@ impl<C: Calls> FlashDriver for Flash<C> {
         Ok(())
     }
 
-    /// The rest of each page is FFh, which programs nothing.
+    /// Writes whole pages of the flash: the rest of each is FFh, which programs nothing.
     fn write(&mut self, offset: u32, bytes: &[u8]) -> Result<(), Infallible> {
         let (mut at, mut left) = (offset, bytes);
         while !left.is_empty() {

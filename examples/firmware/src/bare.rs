@@ -1,6 +1,6 @@
 // SPDX-License-Identifier: MIT OR Apache-2.0
 //! The entry on a chip without an operating system. Interrupts leave what they bring in a mailbox, and the main loop
-//! leaves what is to be sent in another. They stand for the registers and the interrupts of your chip.
+//! leaves what is to be sent in another. They are placeholders for the registers and the interrupts of your chip.
 
 use crate::board::ROWS;
 use crate::chip::{Chip, Event};
@@ -38,7 +38,8 @@ impl Mailbox {
     }
 }
 
-/// What stands for your chip. Its name is exported: the compiler takes what nobody writes for zero, and leaves out what stands on it.
+/// The placeholder for your chip. Its name is exported: else the compiler takes it for zeros, since nobody writes it, and leaves out
+/// the code that reads it.
 pub struct Stand {
     /// What the interrupts bring: 1 a scan, 2 SETUP, 3 OUT, 4 IN, 5 a poll of endpoint 1, 6 a bus reset.
     pub event: Mailbox,

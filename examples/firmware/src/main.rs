@@ -2,11 +2,12 @@
 //! A keyboard's firmware on the exported crate.
 //!
 //! `board` says which switch is which key, and what the keys are at first. `flash` is the driver of the chip's flash, `chip`
-//! what a chip has to give. The keyboard, the USB device layer before it
-//! and its flash are one `Device` of the crate `wuzhikar_device`. `run` is the main loop; it is the same on every
-//! chip. On a machine with an operating system, `main` plays a chip, and prints what goes onto the bus: the host
-//! enumerates the keyboard, the key of the letter a is pressed, the host makes it a b, the power is cut once the host was
-//! told that this is stored, and the key is pressed again. Then the layer key is held, so that 1 is F1.
+//! what a chip has to give. The keyboard, the USB device layer before it and its flash are one `Device` of the crate
+//! `wuzhikar_device`. `run` is the main loop; it is the same on every chip.
+//!
+//! On a machine with an operating system, `main` plays a chip, and prints what goes onto the bus. The host enumerates the
+//! keyboard, the key of the letter a is pressed, and the host makes it a b. Once the host was told that this is stored, the
+//! power is cut, and the key is pressed again. Then the layer key is held, so that 1 is F1.
 #![cfg_attr(target_os = "none", no_std, no_main)]
 #![deny(unsafe_code)]
 
@@ -25,7 +26,7 @@ use flash::{Flash, FlashController};
 use wuzhikar::{PAGE_BYTES, UnstartedKeyboardOf, Work};
 use wuzhikar_device::Device;
 
-/// All that is large: the keyboard, and cells that stand for the chip's flash. It is zeros, so that a `static` of it takes
+/// All that is large: the keyboard, and cells in place of the chip's flash. It is zeros, so that a `static` of it takes
 /// no ROM, and nothing of it is ever moved.
 struct Board {
     keyboard: UnstartedKeyboardOf<Sixty>,

@@ -11,10 +11,10 @@
 //!   that packet is handed over, and `set_address` does nothing. If the host never gets the packet, the core may have it or not: the
 //!   host resets the bus.
 //! - **STALL of endpoint 0.** The core alone ends it, at a SETUP packet. Where one comes between the driver's last look and its write
-//!   of STALL, some cycles of the processor, the request behind that packet is stalled too. The host sees a failure where there was
+//!   of STALL, some cycles of the processor, the request after that packet is stalled too. The host sees a failure where there was
 //!   none, and never a success.
 //!
-//! A reset leaves what was received in the FIFO. So [`interrupt`] empties that at once; a SETUP packet behind a reset is lost where
+//! A reset leaves what was received in the FIFO. So [`interrupt`] empties that at once; a SETUP packet after a reset is lost where
 //! the handler runs more than 10 ms late, as in an erase that stops the processor, and the host then resets again.
 
 use core::cell::Cell;
@@ -231,7 +231,7 @@ impl<'r, R: Registers> Dwc2Usb<'r, R> {
         }
     }
 
-    /// Does this for endpoint 0 unless it is overtaken, and that where it was meanwhile, before the token behind the SETUP packet
+    /// Does this for endpoint 0 unless it is overtaken, and that where it was meanwhile, before the token after the SETUP packet
     /// can be on the bus (3 microseconds).
     fn answer(&self, does: impl FnOnce(), undoes: impl FnOnce()) {
         self.registers().interrupts(false);

@@ -89,7 +89,7 @@ const WAKE: u32 = 1 << 12;
 /// Endpoint 1 is on, tells each packet, is of interrupt type, and has its packets there.
 const ON: u32 = 1 << 31 | 1 << 29 | 3 << 26 | 0x180;
 
-/// What the handler of USBCTRL_IRQ calls: takes back what a SETUP packet or a reset ends, before the token behind it can be on
+/// What the handler of USBCTRL_IRQ calls: takes back what a SETUP packet or a reset ends, before the token after it can be on
 /// the bus (3 microseconds). A SETUP packet stays in SIE_STATUS until `waiting` tells it, and a reset in a note: each further one
 /// comes here again. While a page is erased nothing runs that lies in the flash, so all of this is a part of the handler.
 #[inline(always)]
@@ -191,7 +191,7 @@ impl<R: Registers> Rp2040Usb<'_, R> {
         }
     }
 
-    /// Does this with the interrupts off. It lies in RAM with what it does, which has to be a part of it.
+    /// Does this with the interrupts off. The function lies in RAM, and `does` has to be inlined into it.
     #[cfg_attr(target_os = "none", unsafe(link_section = ".ram"))]
     #[inline(never)]
     fn alone(&self, does: impl FnOnce(&R)) {
@@ -211,7 +211,7 @@ impl<R: Registers> Rp2040Usb<'_, R> {
     }
 
     /// Puts a packet into a buffer, or what it answers else, unless that is overtaken. The interrupts are off twice, for a short
-    /// time: the other buffers stay open in it, also behind a SETUP packet.
+    /// time: the other buffers stay open in it, also after a SETUP packet.
     fn put(&self, buffer: usize, word: u32, packet: &[u8]) {
         let overtaken = if buffer == IN_1 { 0 } else { SETUP };
         self.unless(overtaken, |registers, notes| take_back(registers, notes, 1 << buffer));

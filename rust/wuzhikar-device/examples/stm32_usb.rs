@@ -27,7 +27,7 @@ pub enum Register {
 pub trait Registers {
     fn read(&mut self, register: Register) -> u16;
     fn write(&mut self, register: Register, value: u16);
-    /// The packet that endpoint 0 has received. On STM32 G0, C0, H5 and U5 its length is right some 800 ns behind CTR_RX (erratum, from
+    /// The packet that endpoint 0 has received. On STM32 G0, C0, H5 and U5 its length is right some 800 ns after CTR_RX (erratum, from
     /// memory): wait first.
     fn received(&mut self) -> ArrayVec<u8, 8>;
     /// Puts a packet where an endpoint sends it from, and its length into the table of buffers.
@@ -161,7 +161,7 @@ impl<'r, R: Registers> Stm32Usb<'r, R> {
         if !self.is_overtaken() {
             self.set(Register::Endpoint0, bits, to);
             // A SETUP packet that came since has set both to NAK, which the write turned into something else. It is taken
-            // back here, before the token behind that packet can be on the bus (3 microseconds).
+            // back here, before the token after that packet can be on the bus (3 microseconds).
             if self.is_overtaken() {
                 self.set(Register::Endpoint0, STAT_TX | STAT_RX, NAK);
             }

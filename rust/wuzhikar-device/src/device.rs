@@ -73,7 +73,7 @@ impl<'a, F: NorFlash> Device<'a, F> {
     ///
     /// `PageCount` if the flash has not 2 to 8 pages. It is neither read nor written then, and dropped.
     pub fn start(flash: F, product: &'a Product<'a>) -> Result<Device<'a, F>, PageCount> {
-        Ok(Device::over(Keys::start(flash)?, product))
+        Ok(Device::from_keys(Keys::start(flash)?, product))
     }
 }
 
@@ -84,7 +84,7 @@ impl<'a, F: NorFlash, L: Layout> Device<'a, F, KeyboardOf<L>> {
     ///
     /// `PageCount`, as there.
     pub fn start_with(flash: F, product: &'a Product<'a>, layout: L) -> Result<Device<'a, F, KeyboardOf<L>>, PageCount> {
-        Ok(Device::over(Keys::start_with(flash, layout)?, product))
+        Ok(Device::from_keys(Keys::start_with(flash, layout)?, product))
     }
 }
 
@@ -99,13 +99,13 @@ impl<'a, 'm, F: NorFlash, D: Defaults> Device<'a, F, &'m mut KeyboardOf<D>> {
         flash: F,
         product: &'a Product<'a>,
     ) -> Result<Device<'a, F, &'m mut KeyboardOf<D>>, PageCount> {
-        Ok(Device::over(Keys::start_in(memory, flash)?, product))
+        Ok(Device::from_keys(Keys::start_in(memory, flash)?, product))
     }
 }
 
 impl<'a, F: NorFlash, K: HasKeyboard> Device<'a, F, K> {
-    /// A device over a keyboard that has just started.
-    fn over(keys: Keys<F, K>, product: &'a Product<'a>) -> Device<'a, F, K> {
+    /// Makes a device of a keyboard that has just started.
+    fn from_keys(keys: Keys<F, K>, product: &'a Product<'a>) -> Device<'a, F, K> {
         let layer = DeviceLayer::new(product.descriptors());
         let size = product.identity().packet_size;
         Device { layered: Layered::new(layer, keys, Slot::default(), size), product }

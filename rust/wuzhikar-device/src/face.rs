@@ -13,7 +13,7 @@ impl<E, B> UsbDevice<'_, E, B> {
         &self.device.behind
     }
 
-    /// Lends the device behind the layer, for what is nothing to the bus.
+    /// Lends the device behind the layer, for calls that the bus does not see.
     ///
     /// **Needs** that none of its calls of [`Endpoints`] is made. Nothing checks it.
     pub fn behind_mut(&mut self) -> &mut E {
@@ -46,12 +46,12 @@ impl<E> Guarded<E> {
 }
 
 impl<F: NorFlash, K: HasKeyboard, B: Buffers> UsbDevice<'_, Keys<F, K>, B> {
-    /// Gives the keyboard a command of the firmware's own, as at a chord of keys. It is feature report 3, whose operation 3
-    /// resets all keys (`[3, 3, 0, 0, 0, 0]`). After `Ack` it is made by `work`, and is over when that answers other than
+    /// Makes a command of the firmware's own, for example at a chord of keys. The report is feature report 3; its operation 3
+    /// resets all keys (`[3, 3, 0, 0, 0, 0]`). After `Ack` call `work`: the command is over when `work` answers other than
     /// `Working`.
     ///
-    /// It never falls into a transfer of the host: `Nak` while one is under way or another command works, and then nothing
-    /// has come of it. `Stall` if it is refused, as operation 0 is, which would change what the host has selected.
+    /// The answer is `Nak` while a transfer of the host is under way or another command works; nothing has changed then. It is
+    /// `Stall` if the command is refused. Operation 0 is refused, since it would change what the host has selected.
     pub fn command(&mut self, report: [u8; FEATURE_REPORT_LEN]) -> EpAnswer {
         if self.control.is_over() { self.behind_mut().command(report) } else { EpAnswer::Nak }
     }

@@ -106,7 +106,7 @@ impl<F: NorFlash, D: Defaults, K: HoldsKeyboard<D>> Forgetting<UsbKeyboardOf<D, 
 
     /// Lends the flash, for what the trait `NorFlash` does not have.
     ///
-    /// **Needs** that its bytes stay as they are, and that no other flash takes its place; or call `restart` behind it.
+    /// **Needs** that its bytes stay as they are, and that no other flash takes its place; else call `restart` afterwards.
     /// Nothing checks it: the keyboard's next operations may land in slots that are in use.
     pub fn flash_mut(&mut self) -> &mut F {
         &mut self.behind.flash

@@ -12,6 +12,7 @@ use Rattle.usb_device.specs.Steps.{LayerState, state_of, session, change_of}
 use Rattle.usb_device.specs.Through.{calls_of}
 use Rattle.usb_device.specs.Bus1.{Bus1, no_polls}
 use Rattle.usb_device.specs.Bus.{Bus}
+use Rattle.usb_device.specs.Pauses.{pause_of}
 use Rattle.usb_device.specs.Transfers.{TransferState, NothingWithheld0}
 use Rattle.usb_device.specs.representation.Link.{Link}
 use Rattle.usb_device.specs.representation.Relation.{Refines}
@@ -35,6 +36,7 @@ states_set lent (_ ∷ before) = states_set lent before
 abbrev pub Layered : {E : Type 0} → (List EpCall → E → Type 0) → Lent → List Event → LayerState → E → ReportState → Bus1 → Type 0
 Layered refines lent past layer behind reports b =
     Refines lent past layer × refines (session lent past) behind × Link1 reports b (calls_of past) × InStep (states_set lent past) b
+    × (reports.left ≡ pause_of lent past)
 
 abbrev pub is_ready : Endpoint1 → Bool
 is_ready Ready = true
@@ -51,4 +53,4 @@ PolledOnce past later = (later ≡ past) ⊎ ((answer : PollAnswer) × (later �
 -- the whole: endpoint 0 behind its buffers stands before a device that is layered so
 abbrev pub Runs : {E : Type 0} → (List EpCall → E → Type 0) → TransferState → Bus → List EpCall → Lent → List Event → LayerState → E → ReportState → Bus1 → Type 0
 Runs refines t b calls lent past layer behind reports b1 =
-    Link t b calls × NothingWithheld0 t b calls × Layered refines lent past layer behind reports b1 × (no_polls (calls_of past) ≡ no_polls calls)
+    Link t b calls × NothingWithheld0 t b × Layered refines lent past layer behind reports b1 × (no_polls (calls_of past) ≡ no_polls calls)

@@ -1,14 +1,18 @@
 -- Representation: how the bus, the session of the device and the transfer hang together.
-use Rattle.std.specs.Prelude.{◌≡◌, ◌⊎◌, ℕ, ◌==◌, if◌then◌else◌, true, false, List, [], Option, Some, None}
+use Rattle.std.specs.Prelude.{◌≡◌, ◌⊎◌, ℕ, ◌+◌, ◌==◌, if◌then◌else◌, length, Bool, true, false, List, [], ◌∷◌, ◌++◌, Option, Some, None}
 use Rattle.usb_device.specs.declared.control_buffers.Transfer as Kept
 use Rattle.usb_device.specs.declared.controller.Waiting.{Waiting}
 use Rattle.std.specs.Option.{option_map}
 use Rattle.usb_device.specs.declared.answer.EpAnswer.{EpAnswer}
-use Rattle.usb_device.specs.declared.answer.EpAnswer.TheVariants.{Ack}
-use Rattle.usb_device.specs.Calls.{EpCall}
-use Rattle.usb_device.specs.Bus.{Bus, Met, InMode, Naks, Sends, OutMode, NaksOut, Takes, is_pending, is_out, is_write, setup_of, write_of, has_ended}
-use Rattle.usb_device.specs.Transfers.{TransferState, Idle, Refused, Over, Reads, ReadDue, Sent, Closing, Closed, Opening, Writes, Keeps, Asking, Due, Status, Done, IsOpen, HandsOver, WasAsked, last_0, Rests}
+use Rattle.usb_device.specs.declared.answer.EpAnswer.TheVariants.{Ack, Nak}
+use Rattle.usb_device.specs.Calls.{EpCall, Out, In}
+use Rattle.usb_device.specs.Requests.{word_at}
+use Rattle.usb_device.specs.Bus.{Bus, Met, Goes, InMode, Naks, Sends, Stalls, OutMode, NaksOut, Takes, StallsOut, is_pending, is_write, setup_of, write_of, has_ended}
+use Rattle.usb_device.specs.Transfers.{TransferState, Idle, Refused, Over, Reads, ReadDue, Sent, Closing, Closed, Opening, Writes, Keeps, Asking, Due, Status, Done, last_0, Rests}
 use Rattle.usb_device.specs.Confirmed.{asked_of, taken_of, ConfirmedBefore, AllKept}
+use Rattle.usb_device.specs.WholeReads.{joined}
+use Rattle.usb_device.specs.Given.{is_read, got_of, outs_of, given_of, heard_of, all_given, Hands, AllGiven}
+use Rattle.usb_device.specs.Served.{Grows, handed_on, AreAsked, HasCause, AsksDue, is_undue, is_in_due}
 
 abbrev pub transfer_view : Kept.Transfer → TransferState
 transfer_view Kept.TheVariants.Idle = Idle
@@ -71,17 +75,88 @@ StageLink Status b calls = ConfirmsIf b.input calls × IsSame b calls
 StageLink Done b calls = ConfirmsIf b.input calls × IsSame b calls
 StageLink _ b calls = ⊥
 
--- of a transfer that brings no data: the device is offered none
-abbrev pub HasNoData : TransferState → Type 0
-HasNoData (Reads left) = ⊥
-HasNoData (ReadDue left) = ⊥
-HasNoData Sent = ⊥
-HasNoData Closing = ⊥
-HasNoData Closed = ⊥
-HasNoData Opening = ⊥
-HasNoData Writes = ⊥
-HasNoData (Keeps packet) = ⊥
-HasNoData _ = Unit {0}
+-- nothing is stalled
+abbrev pub GoesOn : InMode → OutMode → Type 0
+GoesOn Stalls output = ⊥
+GoesOn input StallsOut = ⊥
+GoesOn input output = Unit {0}
+
+-- behind a packet of a read so many bytes may be asked for
+abbrev pub Leaves : ℕ → List ℕ → List (List ℕ) → Type 0
+Leaves left setup given =
+    ((left ≡ 0) × (all_given setup given ≡ true))
+    ⊎ ((left ≡ 0 → ⊥) × (all_given setup given ≡ false) × (left + length (joined given) ≡ word_at setup 6))
+
+-- no further OUT packet is due
+abbrev pub NoneDue : List ℕ → List (List ℕ) → Type 0
+NoneDue setup heard = is_undue setup ([] ∷ heard) ≡ true
+
+-- no packet is in the buffer of IN, and none was taken that was not looked at
+abbrev pub IsFree : InMode → Bool → Type 0
+IsFree input taken = (input ≡ Naks) × (taken ≡ false)
+
+-- a packet is in it; or it was taken, and that was not looked at
+abbrev pub IsGiven : InMode → Bool → Type 0
+IsGiven input taken = ((packet : List ℕ) × (has : Bool) × (input ≡ Sends packet has) × (taken ≡ false)) ⊎ ((input ≡ Naks) × (taken ≡ true))
+
+-- what the buffers hold, by the stage of the transfer
+abbrev pub BufferIn : TransferState → InMode → OutMode → Bool → Type 0
+BufferIn Idle input output taken = Unit {0}
+BufferIn Refused input output taken = Unit {0}
+BufferIn Over input output taken = Unit {0}
+BufferIn Closing input output taken = GoesOn input output
+BufferIn Closed input output taken = GoesOn input output
+BufferIn (Reads left) input output taken = IsGiven input taken × GoesOn input output
+BufferIn Status input output taken = IsGiven input taken × GoesOn input output
+BufferIn _ input output taken = IsFree input taken × GoesOn input output
+
+-- what the device was asked and answered in the transfer of this SETUP packet, by its stage
+abbrev pub PastIn : TransferState → List ℕ → List (List ℕ) → List EpCall → Type 0
+PastIn Idle s outs calls = ⊥
+PastIn Refused s outs calls = HasCause s outs calls
+PastIn Over s outs calls = HasCause s outs calls
+PastIn (Reads left) s outs calls = (is_read s ≡ true) × (heard_of calls ≡ []) × Leaves left s (given_of calls)
+PastIn (ReadDue left) s outs calls = (is_read s ≡ true) × (heard_of calls ≡ []) × (all_given s (given_of calls) ≡ false) × (left + length (joined (given_of calls)) ≡ word_at s 6)
+PastIn Sent s outs calls = (is_read s ≡ true) × (all_given s (given_of calls) ≡ true)
+PastIn Closing s outs calls = (is_read s ≡ true) × (packet : List ℕ) × (before : List (List ℕ)) × (heard_of calls ≡ packet ∷ before)
+PastIn Closed s outs calls = (is_read s ≡ true) × (packet : List ℕ) × (before : List (List ℕ)) × (heard_of calls ≡ packet ∷ before)
+PastIn Opening s outs calls = (is_write s ≡ true) × (given_of calls ≡ [])
+PastIn Writes s outs calls = (is_write s ≡ true) × (given_of calls ≡ [])
+PastIn (Keeps packet) s outs calls = (is_write s ≡ true) × (given_of calls ≡ [])
+PastIn Asking s outs calls = (is_read s ≡ false) × NoneDue s (heard_of calls) × (is_in_due s (given_of calls) (heard_of calls) ≡ true)
+PastIn Due s outs calls = (is_read s ≡ false) × NoneDue s (heard_of calls) × (is_in_due s (given_of calls) (heard_of calls) ≡ true)
+PastIn Status s outs calls = NoneDue s (heard_of calls) × (all_given s (given_of calls) ≡ true)
+PastIn Done s outs calls = NoneDue s (heard_of calls) × (all_given s (given_of calls) ≡ true)
+
+-- the device heard the OUT packets of the transfer, but for one that was not looked at; or the host sent too many
+abbrev pub HeardBy : List ℕ → Option (List ℕ) → List (List ℕ) → List (List ℕ) → Type 0
+HeardBy s None outs heard = (is_undue s outs ≡ true) ⊎ (outs ≡ heard)
+HeardBy s (Some packet) outs heard = (rest : List (List ℕ)) × (outs ≡ packet ∷ rest) × ((is_undue s outs ≡ true) ⊎ (rest ≡ heard))
+
+-- the same of a write, where it sent no more than one
+abbrev pub OnlyBy : Option (List ℕ) → List (List ℕ) → List (List ℕ) → Type 0
+OnlyBy None outs heard = outs ≡ heard
+OnlyBy (Some packet) outs heard = outs ≡ packet ∷ heard
+
+-- and but for one that the device did not take yet
+abbrev pub HeardIn : TransferState → List ℕ → Option (List ℕ) → OutMode → List (List ℕ) → List (List ℕ) → Type 0
+HeardIn Refused s out output outs heard = Unit {0}
+HeardIn Over s out output outs heard = Unit {0}
+HeardIn (Keeps packet) s out output outs heard = (out ≡ None) × IsClosed output × (outs ≡ packet ∷ heard)
+HeardIn Opening s out output outs heard = (out ≡ None) × IsClosed output × (outs ≡ heard)
+HeardIn Writes s out output outs heard = ClosedIf out output × OnlyBy out outs heard
+HeardIn t s out output outs heard = HeardBy s out outs heard
+
+pub record StandsOf (t : TransferState) (s : List ℕ) (b : Bus) (calls : List EpCall) : Type 0 where
+  pub asked : asked_of calls ≡ Some s
+  pub buffer : BufferIn t b.input b.output b.met.taken
+  pub past : PastIn t s (outs_of b.seen) calls
+  pub heard : HeardIn t s b.met.out b.output (outs_of b.seen) (heard_of calls)
+  pub due : AsksDue s (outs_of b.seen) calls
+
+-- no transfer, or this one
+abbrev pub Stands : TransferState → Bus → List EpCall → Type 0
+Stands t b calls = ((t ≡ Idle) × (asked_of calls ≡ None) × (b.input ≡ Naks) × (b.output ≡ NaksOut)) ⊎ ((s : List ℕ) × StandsOf t s b calls)
 
 -- a SETUP packet or a reset has come: the buffers are empty
 pub record Fresh (b : Bus) : Type 0 where
@@ -90,15 +165,19 @@ pub record Fresh (b : Bus) : Type 0 where
   pub setup : setup_of b.seen ≡ b.met.setup
   pub write : write_of b.seen ≡ None
   pub ended : has_ended b.seen ≡ false
+  pub got : got_of b.seen ≡ []
+  pub outs : outs_of b.seen ≡ []
 
 -- the host's transfer is the session's
 pub record Current (t : TransferState) (b : Bus) (calls : List EpCall) : Type 0 where
   pub setup : setup_of b.seen ≡ asked_of calls
   pub stage : (setup : List ℕ) → setup_of b.seen ≡ Some setup → is_write setup ≡ true → StageLink t b calls
-  pub none : (setup : List ℕ) → setup_of b.seen ≡ Some setup → is_out setup ≡ true → is_write setup ≡ false → HasNoData t
+  pub hands : Hands b.input (got_of b.seen) (given_of calls)
+  pub stands : Stands t b calls
 
 pub record Link (t : TransferState) (b : Bus) (calls : List EpCall) : Type 0 where
   pub kept : AllKept b.seen calls
+  pub given : AllGiven b.seen calls
   pub fresh : is_pending b.met ≡ true → Fresh b
   pub current : is_pending b.met ≡ false → Current t b calls
 
@@ -110,27 +189,46 @@ IsBegun Asking = Unit {0}
 IsBegun _ = ⊥
 
 -- what holds once it is looked at what was met, before anything is done
-abbrev pub Ready : TransferState → Bus → List EpCall → Type 0
-Ready Refused b calls = WasAsked (last_0 calls)
-Ready (ReadDue left) b calls = Unit {0}
-Ready Closing b calls = WasAsked (last_0 calls)
-Ready Opening b calls = Unit {0}
-Ready (Keeps packet) b calls = is_pending b.met ≡ false
-Ready Asking b calls = Unit {0}
-Ready Due b calls = IsOpen b
-Ready Idle b calls = Rests Idle b calls
-Ready Over b calls = Rests Over b calls
-Ready (Reads left) b calls = HandsOver b calls × IsOpen b
-Ready Sent b calls = IsOpen b
-Ready Closed b calls = IsOpen b × WasAsked (last_0 calls)
-Ready Writes b calls = IsOpen b
-Ready Status b calls = HandsOver b calls × IsOpen b
-Ready Done b calls = IsOpen b × WasAsked (last_0 calls)
+abbrev pub Ready : TransferState → Bus → Type 0
+Ready Refused b = Unit {0}
+Ready (ReadDue left) b = Unit {0}
+Ready Closing b = Unit {0}
+Ready Opening b = Unit {0}
+Ready (Keeps packet) b = is_pending b.met ≡ false
+Ready Asking b = Unit {0}
+Ready t b = Rests t b
+
+-- on top of those calls the device was asked these
+abbrev pub Asks : List EpCall → List EpCall → Type 0
+Asks calls later = (since : List EpCall) × (later ≡ since ++ calls) × AreAsked since
+
+-- what the transfer waits for was asked for last among these, and put off
+abbrev pub PutOff : TransferState → List EpCall → Type 0
+PutOff (ReadDue left) since = last_0 since ≡ Some (In Nak)
+PutOff Due since = last_0 since ≡ Some (In Nak)
+PutOff (Keeps packet) since = last_0 since ≡ Some (Out packet Nak)
+PutOff _ since = Unit {0}
+
+-- and the transfer waits for nothing that these did not ask for
+abbrev pub AsksNow : TransferState → List EpCall → List EpCall → Type 0
+AsksNow t calls later = (since : List EpCall) × (later ≡ since ++ calls) × AreAsked since × PutOff t since
+
+-- all that the host had sent at a moment of the call was handed on, and then the device was asked
+abbrev pub LooksAs : TransferState → Bus → Bus → List EpCall → List EpCall → Type 0
+LooksAs t b new calls later =
+    (steps : List Bus) × (mid : Bus) × Goes steps b mid × Grows mid.seen new.seen × AsksNow t (handed_on mid.met calls) later
 
 -- behind the device's answer to the OUT packet that ends a read
 abbrev pub ended : EpAnswer → TransferState
 ended Ack = Closing
 ended _ = Refused
+
+-- a read that goes on
+abbrev pub is_reading : TransferState → Bool
+is_reading (Reads left) = true
+is_reading (ReadDue left) = true
+is_reading Sent = true
+is_reading _ = false
 
 -- the host has taken the packet
 abbrev pub on_taken : TransferState → TransferState

@@ -7,8 +7,8 @@ use Rattle.usb_device.specs.declared.report_buffers.Course.TheVariants.{Rests, B
 use Rattle.usb_device.specs.declared.answer.Endpoint1.{Endpoint1}
 use Rattle.usb_device.specs.Calls.{EpCall, Polled}
 use Rattle.usb_device.specs.Confirmed.{asked_of}
-use Rattle.usb_device.specs.Bus1.{Bus1, blank, agree, Sent, Reported, sent_of, is_old, newest, sets_protocol, states_reported}
-use Rattle.usb_device.specs.Reports.{cut, count_of, packets_of, with_new, IsPacket, HasNew, IsEmptied, MayRepeat, Carries, Begun}
+use Rattle.usb_device.specs.Bus1.{Bus1, blank, agree, Sent, Reported, sent_of, is_old, newest, sets_protocol, marks, states_reported}
+use Rattle.usb_device.specs.Reports.{cut, count_of, packets_of, with_new, IsPacket, HasNew, IsEmptied, MayRepeat, MayFollow, Carries, Begun}
 
 abbrev pub size_of : PacketSize → ℕ
 size_of Sizes.Bytes8 = 8
@@ -66,9 +66,10 @@ abbrev pub ArePackets : ℕ → List ℕ → List (List ℕ) → Type 0
 ArePackets size report [] = Unit {0}
 ArePackets size report (packet ∷ rest) = IsPacket packet (packets_of size report) × ArePackets size report rest
 
--- the buffers are empty. Where the device is sure, the toggles agree, and go on to agree where the host begins anew
+-- the buffers are empty. Where the device is sure, the toggles agree, and go on to agree where the host begins anew, which it may
+-- not where a report was lost
 abbrev pub Agrees : Bool → Bool → Bus1 → Type 0
-Agrees true true b = b.opened ≡ true → b.device ≡ false
+Agrees true true b = b.opened ≡ false
 Agrees true false b = (b.opened ≡ true) × (b.device ≡ false)
 Agrees false lost b = (agree b ≡ true) × (b.opened ≡ true → b.device ≡ false)
 
@@ -89,7 +90,7 @@ pub record Beginning (s : ReportState) (b : Bus1) (calls : List EpCall) : Type 0
   pub earlier : List Sent
   pub sent : sent_of calls ≡ Reported s.report ∷ earlier
   pub begun : Begun s.size s.report b.got earlier
-  pub once : (begun.pieces ≡ []) ⊎ MayRepeat begun.pieces begun.before
+  pub once : MayFollow begun.pieces begun.before
   pub marked : s.unsure ≡ true → MayRepeat begun.pieces begun.before
 
 -- packets of one are in the buffers, or are to come there. Where the protocol was set since it was given, the host has one.
@@ -149,3 +150,12 @@ pub data NothingWithheld (may : Bool) (room : ℕ) (s : ReportState) (b : Bus1) 
 -- the controller was told of each of these, and of nothing else
 abbrev pub InStep : List Endpoint1 → Bus1 → Type 0
 InStep states b = b.reset ≡ false → states_reported b.got ≡ states
+
+-- what was told of endpoint 1 is the same, and the host may begin anew where it might
+abbrev pub KeepsStates : Bus1 → Bus1 → Type 0
+KeepsStates b new =
+    new.reset ≡ false → (b.reset ≡ false) × (states_reported new.got ≡ states_reported b.got) × (b.opened ≡ true → new.opened ≡ true)
+
+-- nothing came but packets
+abbrev pub KeepsMarks : Bus1 → Bus1 → Type 0
+KeepsMarks b new = new.reset ≡ false → (b.reset ≡ false) × (marks new.got ≡ marks b.got)

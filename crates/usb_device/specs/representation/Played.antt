@@ -3,12 +3,13 @@ use Rattle.std.specs.Prelude.{ℕ, Bool, true, false, List, [], ◌∷◌, map, 
 use Rattle.std.specs.Option.{option_map}
 use Rattle.usb_device.specs.declared.played_buffers.Brought as Noted
 use Rattle.usb_device.specs.declared.played_buffers.PlayedBuffers.{PlayedBuffers}
-use Rattle.usb_device.specs.Bus1.{Bus1, Got, New, Anew, GivenUp, Goes1}
+use Rattle.usb_device.specs.Bus1.{Bus1, Got, New, Anew, GivenUp, Known, Goes1, with_host_anew}
 
 abbrev pub got_of : Noted.Brought → Got
 got_of (Noted.TheVariants.New packet) = New packet.items
 got_of (Noted.TheVariants.Anew state) = Anew state
 got_of Noted.TheVariants.GivenUp = GivenUp
+got_of Noted.TheVariants.Known = Known
 
 abbrev pub slots_of : Option (List ℕ) → List (List ℕ)
 slots_of (Some packet) = packet ∷ []
@@ -28,6 +29,11 @@ played_bus b = record {
   opened = b.opened;
   reset = b.reset;
 }
+
+-- the host begins anew, where the device has
+abbrev pub begun_if : Bool → Bus1 → Bus1
+begun_if true b = with_host_anew b
+begun_if false b = b
 
 -- something may have happened
 abbrev pub Moved : Bus1 → Bus1 → Type 0

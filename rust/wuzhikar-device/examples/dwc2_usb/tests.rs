@@ -1,4 +1,4 @@
-//! The driver over registers that are played, as the manual has them: at any access something may come on the bus, behind which
+//! The driver over registers that are played, as the manual has them: at any access something may come on the bus, after which
 //! the interrupt of a reset runs.
 
 use super::*;

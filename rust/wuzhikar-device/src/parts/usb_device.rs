@@ -11,11 +11,12 @@
 //! The guarantee: a control write that the host saw the end of was acknowledged, and then confirmed by the empty packet, in
 //! the session of the device behind, whatever acknowledgements were lost. Each answer of a standard request is that of tables 9-3 and 9-4 in the state that the
 //! events before give. The host takes as new the reports of the device, each whole, in
-//! their order: once, and at least once where endpoint 1 begins anew, whatever data toggle
-//! the host then wants. A report that waits where the protocol is set is given up: each is of the protocol in which its first
+//! their order: once, and at least once where the device emptied its buffers and does not know
+//! that the host has the status packet, whatever data toggle it then wants. A report that waits where the protocol is set is given up: each is of the protocol in which its first
 //! packet was handed over. The controller is told of each change of endpoint 1 before the host. `UsbDevice::serve`
-//! looks at what came, asks again for what was put off, and hands over a report that waits, except in a pause of at most 50 scans,
-//! which only an empty packet begins. That a read goes on, and that nothing else is stalled, is only tested.
+//! looks at what came, asks again for what was put off, and hands over a report that waits, except in a pause of at most 50 scans
+//! behind the status packet of a request that sets endpoint 1 or the protocol. Behind it the buffers of endpoint 0 answer as the device did: with its next packet, and by NAK
+//! or STALL for a reason. Whatever the host got on endpoint 0, the device gave, in this order.
 //!
 //! The controller is told its address once the host has acknowledged the status packet of SET_ADDRESS and no later SETUP packet
 //! came, and at no other time.

@@ -25,14 +25,14 @@ enum Given {
 const INPUTS: [Given; 3] = [Given::InputNak, Given::InputStall, Given::InputPacket];
 const OUTPUTS: [Given; 3] = [Given::OutputNak, Given::OutputStall, Given::OutputTake];
 
-/// A driver alone, behind a reset.
+/// A driver alone, after a reset.
 struct Alone<F: Firmware> {
     wire: &'static Wired<F::Registers>,
     usb: F::Driver,
 }
 
 impl<F: Firmware> Alone<F> {
-    /// Does a part of a test with a driver behind a reset.
+    /// Does a part of a test with a driver after a reset.
     fn does<T>(test: impl FnOnce(&mut Alone<F>) -> T) -> T {
         let wire = wired::<F>(None);
         told(wire, || {

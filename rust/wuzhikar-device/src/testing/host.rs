@@ -14,7 +14,7 @@ impl Numbers {
         (self.0 >> 33) as usize % limit
     }
 
-    pub fn of<T: Copy>(&mut self, some: &[T]) -> T {
+    pub fn pick<T: Copy>(&mut self, some: &[T]) -> T {
         some[self.below(some.len())]
     }
 
@@ -96,7 +96,7 @@ fn length(setup: [u8; 8]) -> usize {
     u16::from_le_bytes([setup[6], setup[7]]).into()
 }
 
-/// The requests behind which both sides begin endpoint 1 anew with DATA0.
+/// The requests after which both sides begin endpoint 1 anew with DATA0.
 pub fn begins_endpoint_1(setup: [u8; 8]) -> bool {
     matches!(setup, [0, 9, ..] | [1, 0x0b, ..] | [2, 1, ..])
 }
@@ -107,7 +107,7 @@ pub fn is_conforming_command(setup: [u8; 8], data: &[u8]) -> bool {
 }
 
 /// A host. A conforming one asks what a transfer is due, gives transfers up, and resets the bus; the other one also asks and
-/// sends what is not due. Neither goes on behind a STALL.
+/// sends what is not due. Neither goes on after a STALL.
 #[derive(Clone, Debug)]
 pub struct Host {
     conforming: bool,
@@ -138,9 +138,9 @@ impl Host {
         match &self.stage {
             Stage::Free => Act::Setup(self.request(numbers)),
             _ if gives_up => Act::Setup(self.request(numbers)),
-            Stage::Reads(_) | Stage::Ends if nonconforming => numbers.of(&[Wrong::In, Wrong::Out]).act(),
-            Stage::Writes(_) if nonconforming => numbers.of(&[Wrong::In, Wrong::Out, Wrong::Empty]).act(),
-            Stage::Status if nonconforming => numbers.of(&[Wrong::Out, Wrong::Empty]).act(),
+            Stage::Reads(_) | Stage::Ends if nonconforming => numbers.pick(&[Wrong::In, Wrong::Out]).act(),
+            Stage::Writes(_) if nonconforming => numbers.pick(&[Wrong::In, Wrong::Out, Wrong::Empty]).act(),
+            Stage::Status if nonconforming => numbers.pick(&[Wrong::Out, Wrong::Empty]).act(),
             // A host may end a read at any time, and does not go on with it then.
             Stage::Reads(_) if numbers.one_of(20) => {
                 self.stage = Stage::Ends;
@@ -247,7 +247,7 @@ impl Wrong {
 fn request(numbers: &mut Numbers) -> [u8; 8] {
     match numbers.below(40) {
         0 => [(); 8].map(|()| numbers.below(256) as u8),
-        _ => numbers.of(&REQUESTS),
+        _ => numbers.pick(&REQUESTS),
     }
 }
 
@@ -255,9 +255,9 @@ fn request(numbers: &mut Numbers) -> [u8; 8] {
 pub fn data(setup: [u8; 8], numbers: &mut Numbers) -> Vec<u8> {
     match (setup[2], setup[3]) {
         (3, 3) => {
-            let operation = numbers.of(&[0, 1, 1, 1, 1, 1, 2, 3, 7]);
-            let code = numbers.of(&[[4, 0], [5, 0], [6, 0], [0xe9, 0x40], [0xe1, 0], [1, 0], [0, 0x30]]);
-            vec![3, operation, numbers.of(&[0, 0, 0, 1, 4]), numbers.below(3) as u8, code[0], code[1]]
+            let operation = numbers.pick(&[0, 1, 1, 1, 1, 1, 2, 3, 7]);
+            let code = numbers.pick(&[[4, 0], [5, 0], [6, 0], [0xe9, 0x40], [0xe1, 0], [1, 0], [0, 0x30]]);
+            vec![3, operation, numbers.pick(&[0, 0, 0, 1, 4]), numbers.below(3) as u8, code[0], code[1]]
         }
         _ => vec![1; length(setup).min(8)],
     }

@@ -82,7 +82,7 @@ pub(super) struct Counts {
     pub(super) wakes: usize,
 }
 
-/// What was on the bus, its answer, and whether the acknowledgement behind that is lost.
+/// What was on the bus, its answer, and whether the acknowledgement after that is lost.
 #[derive(Debug, PartialEq)]
 struct Token(&'static str, Option<Vec<u8>>, Answer, bool);
 
@@ -238,7 +238,7 @@ impl Line {
         self.counts.resets += 1;
     }
 
-    /// A transfer begins. What it may change the host knows behind it.
+    /// A transfer begins. What it may change the host knows after it.
     fn begins(&mut self, setup: [u8; 8]) {
         (self.toggles[0], self.toggles[1], self.sent_again) = (true, true, false);
         self.read.clear();

@@ -193,7 +193,7 @@ impl<F: Firmware> Run<F> {
         has
     }
 
-    /// Key 0 becomes the letter b: bit 1 behind the modifiers.
+    /// Key 0 becomes the letter b: bit 1 after the modifiers.
     pub fn sets_a_key(&mut self) {
         self.transfer(SET_FEATURE, &[3, 1, 0, 0, 5, 0]);
     }

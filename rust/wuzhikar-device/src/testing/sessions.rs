@@ -99,7 +99,7 @@ impl<F: Firmware> Run<F> {
         }
     }
 
-    /// A halted endpoint 1 is stalled, and says what it missed behind the halt.
+    /// A halted endpoint 1 is stalled, and says what it missed after the halt.
     fn halts(&mut self) {
         self.transfer(HALT, &[]);
         self.presses(false);
@@ -199,7 +199,7 @@ impl<F: Firmware> Run<F> {
         came
     }
 
-    /// A random history, and what the host knows behind it.
+    /// A random history, and what the host knows after it.
     fn lives(&mut self, numbers: &mut Numbers) {
         self.wire.borrow_mut().line.quiet = false;
         for _ in 0..60 {
@@ -218,6 +218,8 @@ impl<F: Firmware> Run<F> {
         if self.asks([0x82, 0, 0, 0, 0x81, 0, 2, 0], &[]).is_none_or(|status| status != [0, 0]) {
             self.transfer(SET_CONFIGURATION, &[]);
         }
+        // Where an acknowledgement was lost, that is 50 scans behind a status packet.
+        (0..50).for_each(|_| self.usb.scan());
         (0..4).for_each(|_| self.polls());
         for (id, length) in [(1, 23), (2, 9), (0, 8)] {
             let known = self.known(id, length).unwrap_or([&[id][..], &vec![0; length - 1]].concat());

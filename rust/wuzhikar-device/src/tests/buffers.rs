@@ -131,7 +131,7 @@ fn read<D: Layouted>(usb: &mut Usb<D>, bus: &RefCell<Bus>, setup: [u8; 8]) -> Op
 fn step<D: Layouted>(usb: &mut Usb<D>, bus: &RefCell<Bus>, numbers: &mut Numbers) {
     match numbers.below(8) {
         0 | 1 => {
-            let scan = Scan { rows: [numbers.below(8) as u16, 0, 0, 0, 0, numbers.of(&[0, 0, 1 << 15])] };
+            let scan = Scan { rows: [numbers.below(8) as u16, 0, 0, 0, 0, numbers.pick(&[0, 0, 1 << 15])] };
             (0..5).for_each(|_| usb.scan_rows(scan.rows));
         }
         // A host that waits for a status packet asks for it within 50 ms.
@@ -139,7 +139,7 @@ fn step<D: Layouted>(usb: &mut Usb<D>, bus: &RefCell<Bus>, numbers: &mut Numbers
         3..=5 => usb.work(),
         // No host selects what the firmware sets.
         6 if numbers.one_of(4) => {
-            let answer = usb.command([3, numbers.of(&[1, 7, 0]), 3, 50, numbers.of(&[4, 5, 6]), 0]);
+            let answer = usb.command([3, numbers.pick(&[1, 7, 0]), 3, 50, numbers.pick(&[4, 5, 6]), 0]);
             bus.borrow_mut().counts.0[COMMANDS] += usize::from(answer == EpAnswer::Ack);
         }
         _ => {}

@@ -137,7 +137,7 @@ fn a_report_under_way_begins_anew_with_the_endpoint() {
         let all = packets(&mut device);
         assert_eq!((lengths(&all), &all[0][..3]), (vec![8, 8, 7], &[1, 0, 1][..]));
     }
-    // A halt, and an endpoint that is off for a time: the release behind it comes too.
+    // A halt, and an endpoint that is off for a time: the release after it comes too.
     for (off, answer) in [(SET_HALT, PollAnswer::Stall), ([0, 9, 0, 0, 0, 0, 0, 0], PollAnswer::Nothing)] {
         let mut device = under_way();
         ask(&mut device, off);
@@ -152,12 +152,12 @@ fn a_report_under_way_begins_anew_with_the_endpoint() {
 
 #[test]
 fn a_report_of_the_old_protocol_is_forgotten() {
-    // The report goes on to its end, the boot report without usages comes behind it, and then that of the key that is held.
+    // The report goes on to its end, the boot report without usages comes after it, and then that of the key that is held.
     let mut device = under_way();
     ask(&mut device, SET_BOOT);
     let all = packets(&mut device);
     assert_eq!((lengths(&all[..2]), &all[2..]), (vec![8, 7], &[vec![0; 8], vec![0, 0, 4, 0, 0, 0, 0, 0]][..]));
-    // So the host forgets a key that it knows of by a report which ended behind its request, and that is up again.
+    // So the host forgets a key that it knows of by a report which ended after its request, and that is up again.
     let mut device = under_way();
     press(&mut device, 0);
     ask(&mut device, [0x21, 0x0b, 1, 0, 0, 0, 0, 0]);
@@ -270,7 +270,7 @@ fn what_works_is_told() {
     assert!(!device.may_work());
     device.setup(SET_FEATURE);
     assert_eq!(device.out(&[3, 1, 0, 0, 5, 0]), EpAnswer::Ack);
-    // It works on behind another transfer, and through a bus reset.
+    // It works on after another transfer, and through a bus reset.
     device.setup(GET_FEATURE);
     assert!(matches!(device.in_packet().0, EpAnswer::Packet(_)) && device.may_work());
     device.bus_reset();

@@ -1,12 +1,12 @@
-use Rattle.std.proofs.Common.{Option, Some, None, [], ◌≡◌, sym, subst, ◌∙◌}
-use Rattle.std.proofs.Math.Nat.{le_trans, le-max_left, le-max_right}
+use Rattle.std.proofs.Common.{Option, true, sym, ap, subst, ◌∙◌}
 use Rattle.usb_device.specs.declared.answer.Endpoint1.{Endpoint1}
 use Rattle.usb_device.specs.Bus1.{Bus1}
 use Rattle.usb_device.specs.representation.Link1.{Link1, InStep}
 use Rattle.usb_device.specs.representation.Layered.{with_state}
 use Rattle.usb_device.proofs.Reporting.{goes1}
-use Rattle.usb_device.proofs.Layering.{anew_in_step}
-use Rattle.usb_device.proofs.Pausing.{held_most}
+use Rattle.usb_device.proofs.Layering.{anew_in_step, anew_opened, states_in_step}
+use Rattle.usb_device.proofs.Pausing.{sets_some, sets_none, pause_no}
+use Rattle.usb_device.specs.Pauses.{pause_by}
 use Rattle.usb_device.proofs.device.follow.Goals as goal
 
 pub returns-in-Some-clause-linked : goal.returns-in-Some-clause-linked
@@ -22,14 +22,17 @@ pub returns-in-Some-clause-reported : goal.returns-in-Some-clause-reported
 returns-in-Some-clause-reported g c = λ states h.
     let i = c.begin_anew.ensures in
     let S : Option Endpoint1 → Type 0 = λ x. InStep (with_state x states) (g.B.Buffers.bus c.begin_anew.new.self) in
-    subst S (sym (sym c.endpoint_set.ensures ∙ c.in-Some.is)) (anew_in_step i.0 states c.in-Some.state _ i.1 _ i.2 i.3 (c.give_up_old.ensures.reported states h))
+    subst S (sym (sym c.endpoint_set.ensures ∙ c.in-Some.is)) (anew_in_step i.0 states c.in-Some.state _ i.1 _ i.2 i.3 (states_in_step states (g.B.Buffers.bus c.args.buffers.now) (g.B.Buffers.bus c.give_up_old.new.buffers) c.give_up_old.ensures.reported h))
 
 pub returns-in-Some-clause-waits : goal.returns-in-Some-clause-waits
-returns-in-Some-clause-waits g c = λ n. absurd (let x : Some c.in-Some.state ≡ None = sym c.in-Some.is ∙ c.endpoint_set.ensures ∙ n in cc)
+returns-in-Some-clause-waits g c =
+    c.begin_anew-in-Some.ensures.waits ∙ (ap (λ x. pause_by true x) c.give_up_old.ensures.waits
+    ∙ ap (λ x. pause_by x c.args.reports.now.left) (sym (sets_some c.args.change c.in-Some.state (sym c.endpoint_set.ensures ∙ c.in-Some.is))))
 
-pub returns-in-Some-clause-most : goal.returns-in-Some-clause-most
-returns-in-Some-clause-most g c =
-    let left = c.begin_anew-in-Some.new.self.left in le_trans (held_most left (c.begin_anew-in-Some.ensures.waits [])) (le-max_right c.args.reports.now.left 50)
+pub returns-in-None-clause-waits : goal.returns-in-None-clause-waits
+returns-in-None-clause-waits g c =
+    let left = c.args.reports.now.left in
+    sym (ap (λ x. pause_by x left) (sets_none c.args.change (sym c.endpoint_set.ensures ∙ c.in-None.is)) ∙ pause_no left)
 
-pub returns-in-None-clause-most : goal.returns-in-None-clause-most
-returns-in-None-clause-most g c = le-max_left c.args.reports.now.left 50
+pub returns-in-Some-clause-opened : goal.returns-in-Some-clause-opened
+returns-in-Some-clause-opened g c = λ state e. let i = c.begin_anew.ensures in anew_opened i.1 (g.B.Buffers.bus c.begin_anew.new.self) c.in-Some.state i.3

@@ -9,9 +9,9 @@ returns-then-start-sent-clause-packet c =
     let bytes = (2 + 2 * length units) ∷ 3 ∷ flat_map unit_bytes units in
     let n = length-bytes (2 + 2 * length units) units in
     let p = packet_some bytes c.args.asked c.args.index
-    (omega (arith, n, c.from-asked.ensures, c.min-sent.ensures, c.from-start.ensures, c.if-start-sent.true)) in
+    (omega (arith, n, c.from.ensures, c.from-asked.ensures, c.min-sent.ensures, c.from-start.ensures, c.if-start-sent.true)) in
     rw (← bytes_of c.held_count.result c.args.text.now c.held_count.ensures.there c.held_count.ensures.held)
-    (ap Some (rw (c.bytes_between.ensures, c.min.ensures, c.min-sent.ensures, c.from-asked.ensures, c.from-start.ensures, n) refl)
+    (ap Some (rw (c.bytes_between.ensures, c.min.ensures, c.min-sent.ensures, c.from.ensures, c.from-asked.ensures, c.from-start.ensures, n) refl)
     ∙ sym p)
 
 pub returns-then-sent-asked-clause-packet : goal.returns-then-sent-asked-clause-packet

@@ -1,5 +1,5 @@
 //! The registers, played: the chip counts no toggles and leaves its buffers at a SETUP packet and at a reset, and at any access
-//! something may come on the bus, behind which the interrupt runs.
+//! something may come on the bus, after which the interrupt runs.
 
 use super::*;
 use std::collections::HashMap;
@@ -141,7 +141,7 @@ impl Wire for Played {
     }
 }
 
-/// The first access behind a SETUP packet at which the token behind that may be on the bus, with a processor of 48 MHz.
+/// The first access after a SETUP packet at which the token after that may be on the bus, with a processor of 48 MHz.
 const TOKEN: usize = 12;
 
 impl Played {
@@ -213,7 +213,7 @@ impl Registers for &Wired {
                 *played.at(place) = word & !WAKE;
             }
             _ if (CONTROL..CONTROL + 12).contains(&place) => {
-                // All but AVAILABLE stands before it, for long enough.
+                // All other bits are written before AVAILABLE, and long enough before it.
                 assert!(word & AVAILABLE == 0 || played.is_idle && played.word(place) == word & !AVAILABLE, "{place:x}");
                 played.is_idle = false;
                 *played.at(place) = word;

@@ -11,8 +11,6 @@ pub struct Device<'a, E, B> {
     pub(crate) behind: E,
     pub(crate) buffers: B,
     reports: ReportBuffers,
-    /// Whether the transfer under way is no read, so that its last packet is the empty one of the status stage.
-    sets: bool,
 }
 
 /// What a change sets endpoint 1 to.
@@ -35,14 +33,6 @@ fn follow<B: Buffers>(change: Option<Change>, buffers: &mut B, reports: &mut Rep
     }
 }
 
-/// Whether an answer is the packet of a status stage.
-fn is_status(sets: bool, answer: &EpAnswer) -> bool {
-    match answer {
-        EpAnswer::Packet(packet) => sets && packet.is_empty(),
-        EpAnswer::Ack | EpAnswer::Nak | EpAnswer::Stall => false,
-    }
-}
-
 /// The report of an answer.
 fn report_of(answer: PollAnswer) -> Option<Report> {
     match answer {
@@ -59,7 +49,6 @@ impl<'a, E: Endpoints, B: Buffers> Device<'a, E, B> {
             behind,
             buffers,
             reports: ReportBuffers::new(size),
-            sets: false,
         }
     }
 
@@ -73,8 +62,7 @@ impl<'a, E: Endpoints, B: Buffers> Device<'a, E, B> {
     pub fn is_done(&mut self) {
         self.reports.release();
         if self.layer.has_renewed() {
-            self.buffers.host_began();
-            self.reports.agree();
+            self.reports.agree(&mut self.buffers);
         }
     }
 
@@ -146,7 +134,6 @@ impl<'a, E: Endpoints, B: Buffers> Endpoints for Device<'a, E, B> {
     fn setup(&mut self, packet: [u8; 8]) {
         self.layer.setup(packet, &mut self.behind);
         self.reports.setup(packet);
-        self.sets = packet[0] < 0x80;
     }
 
     fn out(&mut self, packet: &[u8]) -> EpAnswer {
@@ -157,7 +144,6 @@ impl<'a, E: Endpoints, B: Buffers> Endpoints for Device<'a, E, B> {
         let (answer, change) = self.layer.in_packet(&mut self.behind);
         follow(change, &mut self.buffers, &mut self.reports);
         self.reports.answered(&answer, &mut self.buffers);
-        self.reports.hold(is_status(self.sets, &answer));
         answer
     }
 

@@ -4,8 +4,8 @@
 use crate::parts::usb_device::guard::{Guard, Passage};
 use crate::parts::usb_device::{Endpoints, EpAnswer, Report, Works};
 
-/// The longest pace: a host waits 5 seconds for a status stage.
-const MOST_SCANS: u16 = 4000;
+/// The longest pace: a host waits 5 seconds for a status stage (section 9.2.6.1).
+const MOST_PACE: u16 = 4000;
 
 /// A device that reads a matrix.
 pub trait ScansMatrix: Endpoints {
@@ -43,7 +43,7 @@ impl<E: Endpoints> Guarded<E> {
     /// The lock is off. The pace is a number of scans, at most 4,000, and 0 for none.
     pub fn new(behind: E, pace: u16) -> Guarded<E> {
         Guarded {
-            guard: Guard::new(pace.min(MOST_SCANS)),
+            guard: Guard::new(pace.min(MOST_PACE)),
             behind,
         }
     }

@@ -20,10 +20,9 @@ pub(crate) enum Course {
 
 /// What is known of the buffers, and the report under way.
 ///
-/// A change of endpoint 1 is made before the host knows of it. So no packet is handed over until the host has taken the
-/// status packet, has begun another transfer, or has let 50 scans go by: the acknowledgement may be lost, and then the
-/// device never knows that the host has the packet (section 8.5.3.3). Then the host may want either data toggle, and drops a
-/// packet that has the other one. So the next report is handed over twice, and the host has it whole.
+/// A change of endpoint 1 is made before the host knows of it. So no packet is handed over until the host has taken the status packet,
+/// or has let 50 scans go by: the acknowledgement may be lost, and then the device never knows of it (section 8.5.3.3). Then the host
+/// may want either data toggle, and drops a packet that has the other one. So the next report is handed over twice.
 ///
 /// A request that sets the protocol (HID 1.11 section 7.2.6) gives up a report that waits, as it is of the protocol before, and
 /// the host may have a packet of it. One of which the host is known to have a packet goes on, as the host's transfer does.
@@ -34,7 +33,7 @@ pub struct ReportBuffers {
     rest: Report,
     due: usize,
     again: bool,
-    buffered: usize,
+    buffered: u8,
     unsure: bool,
     lost: bool,
     is_old: bool,
@@ -42,8 +41,13 @@ pub struct ReportBuffers {
     waits: u8,
 }
 
+/// The scans to be waited behind a status packet, where so many are waited before it.
+fn pause(waits: u8) -> u8 {
+    if waits == 0 { STATUS_SCANS } else { waits }
+}
+
 /// How many buffers there are.
-fn room<B: Buffers>(buffers: &B) -> usize {
+fn room<B: Buffers>(buffers: &B) -> u8 {
     if buffers.has_two() { 2 } else { 1 }
 }
 
@@ -101,18 +105,10 @@ impl ReportBuffers {
     pub fn begin_anew(&mut self) {
         self.unsure = true;
         self.lost = false;
-        self.waits = STATUS_SCANS;
+        self.waits = pause(self.waits);
         match self.course {
             Course::Goes => self.course = Course::Begins,
             Course::Rests | Course::Begins => {}
-        }
-    }
-
-    /// Where this is the status packet of a request, nothing is handed over until `release` or 50 scans: the host does not know
-    /// yet what the request has changed, as SET_PROTOCOL the reports (HID 1.11 section 7.2.6).
-    pub fn hold(&mut self, is_status: bool) {
-        if is_status {
-            self.waits = STATUS_SCANS;
         }
     }
 
@@ -127,25 +123,31 @@ impl ReportBuffers {
     }
 
     /// The host has begun anew with DATA0, where the device has: the toggles agree.
-    pub fn agree(&mut self) {
+    pub fn agree<B: Buffers>(&mut self, buffers: &mut B) {
+        buffers.host_began();
         if !self.lost {
             self.unsure = false;
         }
     }
 
-    /// A SETUP packet has come: nothing is waited for.
+    /// A SETUP packet has come.
     pub fn setup(&mut self, packet: [u8; 8]) {
-        self.waits = 0;
         self.protocol = sets_protocol(packet);
     }
 
-    /// This was the answer to an IN token of endpoint 0. The empty packet of SET_PROTOCOL sets the protocol.
+    /// This was the answer to an IN token of endpoint 0. The empty packet of SET_PROTOCOL sets the protocol, of which the host is to know.
     pub fn answered<B: Buffers>(&mut self, answer: &EpAnswer, buffers: &mut B) {
         if self.is_change(answer) {
             let count = buffers.taken_1();
             self.taken(count);
             self.change(buffers);
+            self.wait();
         }
+    }
+
+    /// Nothing is handed over until `release` or 50 scans, where nothing was waited for.
+    fn wait(&mut self) {
+        self.waits = pause(self.waits);
     }
 
     /// Whether this answer sets the protocol.
@@ -200,7 +202,7 @@ impl ReportBuffers {
 
     /// Whether the host has a packet of the report under way.
     fn is_begun(&self) -> bool {
-        !self.again && self.buffered < self.count().saturating_sub(self.due)
+        !self.again && (self.buffered as usize) < self.count().saturating_sub(self.due)
     }
 
     /// A reset of the bus. The report under way is dropped, as the host has forgotten what it knew.
@@ -214,7 +216,7 @@ impl ReportBuffers {
 
     /// So many packets were taken since this was reported before.
     pub fn taken(&mut self, count: usize) {
-        self.buffered = self.buffered.saturating_sub(count);
+        self.buffered = (self.buffered as usize).saturating_sub(count) as u8;
         match self.course {
             Course::Goes => {
                 if self.is_over() {
@@ -304,7 +306,7 @@ impl ReportBuffers {
 
     /// How many packets the report has.
     fn count(&self) -> usize {
-        self.report.len().saturating_sub(1) / self.size.bytes() + 1
+        usize::from(self.report.len().saturating_sub(1) as u8) / self.size.bytes() + 1
     }
 
     /// The next packet of the report.

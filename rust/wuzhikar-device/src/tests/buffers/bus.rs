@@ -9,7 +9,7 @@ use std::collections::{HashMap, VecDeque};
 #[derive(Clone, Copy, Debug, Default)]
 pub struct Counts(pub [usize; 11]);
 
-/// Commands that the host saw the end of, packets of endpoint 0 behind which a SETUP packet came, reports that the host got
+/// Commands that the host saw the end of, packets of endpoint 0 after which a SETUP packet came, reports that the host got
 /// whole, packets that were dropped, stalls, addresses, packets that came again on endpoint 0 (IN, OUT) and on endpoint 1,
 /// packets of endpoint 1 that were dropped as repetitions, and the firmware's own commands.
 pub const CONFIRMED: usize = 0;

@@ -94,7 +94,7 @@ fn each_request_is_answered_by_the_state() {
     for row in REQUESTS.lines().filter(|row| !row.trim().is_empty()) {
         let [setup, before, after] = row.split('|').collect::<Vec<_>>()[..] else { panic!("{row}") };
         let setup: [u8; 8] = bytes(setup).try_into().unwrap();
-        // What stands behind the last answer says what the row is.
+        // What follows the last answer says what the row is.
         let after = after.split("  ").next().unwrap().trim();
         assert_eq!(answer(Device::new(), setup), before.trim(), "default state: {row}");
         assert_eq!(answer(Device::addressed(), setup), before.trim(), "address state: {row}");

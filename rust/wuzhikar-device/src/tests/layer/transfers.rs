@@ -93,7 +93,7 @@ fn a_read_ends_as_wlength_says() {
 
 #[test]
 fn what_does_not_belong_to_the_stage_is_stalled() {
-    // A packet behind the last one, and then the status stage: 18 bytes whole, as far as wLength goes, with more of it,
+    // A packet after the last one, and then the status stage: 18 bytes whole, as far as wLength goes, with more of it,
     // and 16 bytes with their empty packet.
     let mut device = Device::configured();
     let reads = [(device_descriptor(18), 3), (device_descriptor(16), 2), (device_descriptor(64), 3), (string(1), 3)];

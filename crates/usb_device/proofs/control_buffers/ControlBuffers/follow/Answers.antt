@@ -1,27 +1,21 @@
-use Rattle.std.proofs.Common.{refl, sym, ap, subst, ◌∙◌, ◌≡◌}
+use Rattle.std.proofs.lemmas.Grind.{common_steps}
+use Rattle.std.proofs.Common.{◌≡◌, true, arith, refl, [], ap, sym, subst, ◌∙◌}
+use Rattle.usb_device.specs.Transfers.{TransferState}
 use Rattle.usb_device.specs.Bus.{looked}
-use Rattle.usb_device.specs.Transfers.{TransferState, Reads, ReadDue, Sent, Closing}
-use Rattle.usb_device.specs.representation.Link.{Link, transfer_view}
-use Rattle.usb_device.proofs.Moving.{looked_free, owes_nothing}
+use Rattle.usb_device.specs.representation.Link.{Ready}
+use Rattle.std.specs.Option.{option_map}
+use Rattle.usb_device.proofs.Moving.{looked_undue}
+use Rattle.usb_device.proofs.Resting.{taken_ready}
+use Rattle.usb_device.proofs.Standing.{has_ended_by}
 use Rattle.usb_device.proofs.control_buffers.ControlBuffers.follow.Goals as goal
 
-pub returns-in-Reads-clause-linked : goal.returns-in-Reads-clause-linked
-unfolding owes_nothing
-returns-in-Reads-clause-linked g c = λ b calls s h r n o k rests.
-    let t : c.args.self.now ≡ Reads c.in-Reads._left = sym c.self.view_is ∙ ap transfer_view c.in-Reads.is in
-    let T : TransferState → Type 0 = λ x. Link x b calls in
-    c.close.ensures.linked (looked b) calls s refl (looked_free (Reads c.in-Reads._left) Closing b calls tt (subst T t h) r n)
+pub returns-in-Closed-clause-linked : goal.returns-in-Closed-clause-linked
+returns-in-Closed-clause-linked g c = λ b calls s h r n o k rests.
+    let e : has_ended_by c.args.self.now ≡ true = grind (arith, common_steps, c.in-Closed.is, c.self.view_is) in
+    (calls, s, looked_undue c.args.self.now c.in-Some.packet.items b calls e r n (o ∙ ap (λ x. option_map (λ p. p.items) x) c.in-Some.is) h, tt, ([], refl, tt))
 
-pub returns-in-ReadDue-clause-linked : goal.returns-in-ReadDue-clause-linked
-unfolding owes_nothing
-returns-in-ReadDue-clause-linked g c = λ b calls s h r n o k rests.
-    let t : c.args.self.now ≡ ReadDue c.in-ReadDue._left = sym c.self.view_is ∙ ap transfer_view c.in-ReadDue.is in
-    let T : TransferState → Type 0 = λ x. Link x b calls in
-    c.close-in-ReadDue.ensures.linked (looked b) calls s refl (looked_free (ReadDue c.in-ReadDue._left) Closing b calls tt (subst T t h) r n)
-
-pub returns-in-Sent-clause-linked : goal.returns-in-Sent-clause-linked
-unfolding owes_nothing
-returns-in-Sent-clause-linked g c = λ b calls s h r n o k rests.
-    let t : c.args.self.now ≡ Sent = sym c.self.view_is ∙ ap transfer_view c.in-Sent.is in
-    let T : TransferState → Type 0 = λ x. Link x b calls in
-    c.close-in-Sent.ensures.linked (looked b) calls s refl (looked_free (Sent) Closing b calls tt (subst T t h) r n)
+pub returns-then-taken-clause-linked : goal.returns-then-taken-clause-linked
+returns-then-taken-clause-linked g c = λ b calls s h r n o k rests.
+    let none = o ∙ ap (λ x. option_map (λ p. p.items) x) c.in-None.is in
+    let R : TransferState → Type 0 = λ x. Ready x (looked b) in
+    (calls, s, c.move_on.ensures.linked b calls h r n none (k ∙ c.if-taken.true), subst R (sym c.move_on.ensures.moved) (taken_ready c.args.self.now b none rests), ([], refl, tt))

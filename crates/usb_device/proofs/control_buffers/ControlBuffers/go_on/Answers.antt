@@ -1,8 +1,7 @@
 use Rattle.std.proofs.Common.{[], ◌∷◌, refl, sym, ap, subst, ◌∙◌, ◌≡◌}
 use Rattle.usb_device.specs.Calls.{Out}
 use Rattle.usb_device.specs.Transfers.{TransferState, Refused, Closing, Opening, Keeps, Asking, Rests}
-use Rattle.usb_device.specs.Served.{AsksNow}
-use Rattle.usb_device.specs.representation.Link.{Ready, Link, transfer_view}
+use Rattle.usb_device.specs.representation.Link.{AsksNow, Ready, Link, transfer_view}
 use Rattle.usb_device.proofs.Moving.{opened, asking_due, closed_again, offered_ack, offered_nak, offered_else}
 use Rattle.usb_device.proofs.Looking.{asks_more}
 use Rattle.usb_device.proofs.Resting.{opens}
@@ -18,7 +17,7 @@ pub returns-in-Ack-clause-linked : goal.returns-in-Ack-clause-linked
 returns-in-Ack-clause-linked g c = λ calls s h r.
     let p = c.as_slice.result.now in
     let t : c.args.self.now ≡ Keeps p = sym c.self.view_is ∙ ap transfer_view c.in-Kept.is ∙ ap Keeps (sym c.as_slice.ensures.value) in
-    let R : TransferState → Type 0 = λ x. Ready x (g.C.Controller.bus c.args.controller.now) calls in
+    let R : TransferState → Type 0 = λ x. Ready x (g.C.Controller.bus c.args.controller.now) in
     let after = Out p c.out.result ∷ calls in
     let x = c.ask.ensures.linked after (c.out.ensures.refines calls s) (rw c.in-Ack.is (offered_ack _ c.args.self.now p calls t (subst R t r) h)) in
     (x.0, x.1, x.2, x.3, asks_more _ calls after x.0 (Out p c.out.result ∷ [], refl, tt) x.4)
@@ -28,21 +27,21 @@ returns-in-Nak-clause-linked g c = λ calls s h r.
     let p = c.as_slice.result.now in
     let t : c.args.self.now ≡ Keeps p = sym c.self.view_is ∙ ap transfer_view c.in-Kept.is ∙ ap Keeps (sym c.as_slice.ensures.value) in
     let later = Out p c.out.result ∷ calls in
-    let R : TransferState → Type 0 = λ x. Rests x (g.C.Controller.bus c.args.controller.now) later in
+    let R : TransferState → Type 0 = λ x. Rests x (g.C.Controller.bus c.args.controller.now) in
     let A : TransferState → Type 0 = λ x. AsksNow x calls later in
-    (later, c.out.ensures.refines calls s, rw c.in-Nak.is (offered_nak _ c.args.self.now p calls t h), λ q. subst R (sym t) (rw c.in-Nak.is refl), subst A (sym t) (Out p c.out.result ∷ [], refl, tt, rw c.in-Nak.is refl))
+    (later, c.out.ensures.refines calls s, rw c.in-Nak.is (offered_nak _ c.args.self.now p calls t h), λ q. subst R (sym t) tt, subst A (sym t) (Out p c.out.result ∷ [], refl, tt, rw c.in-Nak.is refl))
 
 pub returns-in-Packet-clause-linked : goal.returns-in-Packet-clause-linked
 returns-in-Packet-clause-linked g c = λ calls s h r.
     let p = c.as_slice.result.now in
     let t : c.args.self.now ≡ Keeps p = sym c.self.view_is ∙ ap transfer_view c.in-Kept.is ∙ ap Keeps (sym c.as_slice.ensures.value) in
     let after = Out p c.out.result ∷ calls in
-    let R : TransferState → Type 0 = λ x. Ready x (g.C.Controller.bus c.args.controller.now) calls in
+    let R : TransferState → Type 0 = λ x. Ready x (g.C.Controller.bus c.args.controller.now) in
     let e = c.refuse.ensures in (
       after,
       c.out.ensures.refines calls s,
-      rw e.over (e.linked after (offered_else _ c.args.self.now p c.out.result calls t (subst R t r) h)),
-      rw e.over (e.reported after tt),
+      rw e.over (e.linked after (offered_else _ c.args.self.now p c.out.result calls t (subst R t r) c.in-Packet.is h)),
+      rw e.over e.reported,
       rw e.over (Out p c.out.result ∷ [], refl, tt, tt),
     )
 
@@ -54,12 +53,11 @@ returns-in-Asking-clause-linked g c = λ calls s h r.
 pub returns-in-Closing-clause-linked : goal.returns-in-Closing-clause-linked
 returns-in-Closing-clause-linked g c = λ calls s h r.
     let o = c.open-in-Closing.ensures.set in
-    let t : c.args.self.now ≡ Closing = sym c.self.view_is ∙ ap transfer_view c.in-Closing.is in
-    let R : TransferState → Type 0 = λ x. Ready x (g.C.Controller.bus c.args.controller.now) calls in (
+    let t : c.args.self.now ≡ Closing = sym c.self.view_is ∙ ap transfer_view c.in-Closing.is in (
       calls,
       s,
       closed_again c.args.self.now o.0 o.1 _ _ calls o.2 o.3 t h,
-      λ q. (opens o.1 (g.C.Controller.bus c.open-in-Closing.new.controller) o.3 q, subst R t r),
+      opens o.1 (g.C.Controller.bus c.open-in-Closing.new.controller) o.3,
       ([], refl, tt, tt),
     )
 
@@ -67,6 +65,5 @@ pub returns-in-Refused-clause-linked : goal.returns-in-Refused-clause-linked
 returns-in-Refused-clause-linked g c = λ calls s h r.
     let t : c.args.self.now ≡ Refused = sym c.self.view_is ∙ ap transfer_view c.in-Refused.is in
     let T : TransferState → Type 0 = λ x. Link x (g.C.Controller.bus c.args.controller.now) calls in
-    let R : TransferState → Type 0 = λ x. Ready x (g.C.Controller.bus c.args.controller.now) calls in
     let e = c.refuse-in-Refused.ensures in
-    (calls, s, rw e.over (e.linked calls (subst T t h)), rw e.over (e.reported calls (subst R t r)), rw e.over ([], refl, tt, tt))
+    (calls, s, rw e.over (e.linked calls (subst T t h)), rw e.over e.reported, rw e.over ([], refl, tt, tt))

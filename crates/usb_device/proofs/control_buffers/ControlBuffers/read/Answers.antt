@@ -1,10 +1,12 @@
-use Rattle.std.proofs.Common.{[], ◌∷◌, refl}
+use Rattle.std.proofs.lemmas.Grind.{common_steps}
+use Rattle.std.proofs.Common.{arith, [], ◌∷◌, refl, sym, ◌∙◌, inl, inr}
 use Rattle.usb_device.specs.Calls.{In}
-use Rattle.usb_device.specs.Transfers.{Refused, Reads, ReadDue}
-use Rattle.usb_device.proofs.Moving.{read_answer, read_hands}
+use Rattle.usb_device.proofs.Moving.{read_nak, read_else, read_hands}
+use Rattle.usb_device.proofs.Standing.{LeavesBy}
 use Rattle.usb_device.proofs.Addressing.{stays_then}
 use Rattle.usb_device.proofs.Looking.{grows_then}
 use Rattle.usb_device.proofs.Resting.{hands, opens}
+use Rattle.usb_device.proofs.control_buffers.ControlBuffers.read.Goals.{then-len-eq8, else-len-eq8}
 use Rattle.usb_device.proofs.control_buffers.ControlBuffers.read.Goals as goal
 
 pub returns-after-len-eq8-clause-linked : goal.returns-after-len-eq8-clause-linked
@@ -12,26 +14,28 @@ returns-after-len-eq8-clause-linked g c = λ calls s h.
     let o = c.open.ensures.set in
     let i = c.hand_over.ensures.set in
     let left = c.if-len-eq8.left in
-    let after = In c.in_packet.result ∷ calls in
     let p = c.in-Packet.packet.items in
-    let opened = opens o.1 (g.C.Controller.bus c.open.new.controller) o.3 in (
-      after,
+    let bus = g.C.Controller.bus in
+    let opened = opens o.1 (bus c.open.new.controller) o.3 in
+    let leaves : LeavesBy c.args.left left p =
+    elim c.if-len-eq8.branch [ then-len-eq8 w ↦ inl (sym c.len.ensures.value ∙ w.if-len-eq8.true, w.left-is ∙ w.saturating_sub-left.ensures) | else-len-eq8 w ↦ inr (grind (arith, common_steps, w.if-len-eq8.false, c.len.ensures.value, c.len.ensures.fits), w.left-is) ]
+    in (
+      In c.in_packet.result ∷ calls,
       c.in_packet.ensures.refines calls s,
-      read_hands o.0 o.1 _ _ i.0 i.1 _ left p after o.2 o.3 i.2 i.3 (read_answer c.args.left (Reads left) _ c.in_packet.result calls h),
-      λ q. (let held = hands i.0 (g.C.Controller.bus c.open.new.controller) i.1 (g.C.Controller.bus c.hand_over.new.controller) p i.2 i.3 opened q in
-          ((p, rw c.in-Packet.is refl, held.0), held.1)),
+      rw c.in-Packet.is (read_hands o.0 o.1 (bus c.args.controller.now) (bus c.open.new.controller) i.0 i.1 (bus c.hand_over.new.controller) c.args.left left p calls o.2 o.3 i.2 i.3 leaves h),
+      hands i.0 (bus c.open.new.controller) i.1 (bus c.hand_over.new.controller) p i.2 i.3 opened,
       (In c.in_packet.result ∷ [], refl, tt, tt),
     )
 
 pub returns-in-Nak-clause-linked : goal.returns-in-Nak-clause-linked
 returns-in-Nak-clause-linked g c = λ calls s h.
-    (In c.in_packet.result ∷ calls, c.in_packet.ensures.refines calls s, read_answer c.args.left (ReadDue c.args.left) _ c.in_packet.result calls h, λ q. rw c.in-Nak.is refl, (In c.in_packet.result ∷ [], refl, tt, rw c.in-Nak.is refl))
+    (In c.in_packet.result ∷ calls, c.in_packet.ensures.refines calls s, rw c.in-Nak.is (read_nak c.args.left _ calls h), λ q. tt, (In c.in_packet.result ∷ [], refl, tt, rw c.in-Nak.is refl))
 
 pub returns-in-Ack-clause-linked : goal.returns-in-Ack-clause-linked
 returns-in-Ack-clause-linked g c = λ calls s h.
     let after = In c.in_packet.result ∷ calls in
     let r = c.refuse.ensures in
-    (after, c.in_packet.ensures.refines calls s, rw r.over (r.linked after (read_answer c.args.left Refused _ c.in_packet.result calls h)), rw r.over (r.reported after tt), rw r.over (In c.in_packet.result ∷ [], refl, tt, tt))
+    (after, c.in_packet.ensures.refines calls s, rw r.over (r.linked after (read_else c.args.left _ c.in_packet.result calls c.in-Ack.is h)), rw r.over r.reported, rw r.over (In c.in_packet.result ∷ [], refl, tt, tt))
 
 pub returns-after-len-eq8-clause-stays : goal.returns-after-len-eq8-clause-stays
 returns-after-len-eq8-clause-stays g c =

@@ -14,11 +14,10 @@ returns-clause-linked g c = λ calls h.
     refused Refused i.0 i.1 _ _ o.0 o.1 _ calls i.2 i.3 o.2 o.3 refl h
 
 pub returns-clause-reported : goal.returns-clause-reported
-returns-clause-reported g c = λ calls a q.
+returns-clause-reported g c = λ q.
     let i = c.input_0.ensures.set in
     let o = c.output_0.ensures.set in
-    let x = stalls_reported i.1 (g.C.Controller.bus c.input_0.new.self) o.0 o.1 (g.C.Controller.bus c.output_0.new.self) i.3 o.2 o.3 q in
-    (x.0, x.1, a)
+    stalls_reported i.1 (g.C.Controller.bus c.input_0.new.self) o.0 o.1 (g.C.Controller.bus c.output_0.new.self) i.3 o.2 o.3 q
 
 pub returns-clause-stays : goal.returns-clause-stays
 returns-clause-stays g c =

@@ -12,7 +12,7 @@ pub returns-clause-linked : goal.returns-clause-linked
 returns-clause-linked g c = λ calls s h r.
     let w = c.waiting-met.ensures.met in
     let linked = goes w.0 c.args.self.now _ w.1 calls w.2 h in
-    let taken = c.take.ensures.linked w.1 calls s linked w.3 (rest_goes w.0 c.args.self.now (g.C.Controller.bus c.args.controller.now) w.1 calls w.2 r) in
+    let taken = c.take.ensures.linked w.1 calls s linked w.3 (rest_goes w.0 c.args.self.now (g.C.Controller.bus c.args.controller.now) w.1 w.2 r) in
     let x = c.go_on.ensures.linked taken.0 taken.1 (rw w.4 taken.2) (rw w.4 taken.3) in
     let asks = asks_more _ (handed_on w.1.met calls) taken.0 x.0 taken.4 x.4 in
     let kept = asks_kept w.1.met _ calls x.0 asks in

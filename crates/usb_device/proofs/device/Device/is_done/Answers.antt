@@ -1,21 +1,32 @@
-use Rattle.std.proofs.Common.{sym, ap, ◌∙◌}
+use Rattle.std.proofs.Common.{List, sym, ap, subst, ◌∙◌}
+use Rattle.usb_device.specs.Calls.{EpCall}
+use Rattle.usb_device.specs.representation.Link1.{ReportState}
 use Rattle.usb_device.specs.Steps.{LayerState}
 use Rattle.usb_device.specs.Through.{calls_of}
 use Rattle.usb_device.specs.representation.Layered.{states_set}
 use Rattle.usb_device.proofs.Carrying.{true_false}
-use Rattle.usb_device.proofs.Layering.{began_link, began_in_step, began_host}
 use Rattle.usb_device.proofs.Stating.{standing}
+use Rattle.usb_device.proofs.Layering.{seen_refines, seen_session}
 use Rattle.usb_device.proofs.device.Device.is_done.Goals as goal
 
 pub returns-then-has_renewed-clause-refines : goal.returns-then-has_renewed-clause-refines
 returns-then-has_renewed-clause-refines g c = λ lent past h.
-    let i = c.host_began.ensures in
-    let b = g.B.Buffers.bus c.host_began.new.self in (
-      h.0,
-      h.1,
-      c.agree.ensures.linked b (calls_of past) (began_host i.1 b i.3)
-          (began_link i.0 c.release.new.self _ i.1 b (calls_of past) i.2 i.3 (c.release.ensures.linked _ (calls_of past) h.2)),
-      began_in_step i.0 (states_set lent past) _ i.1 b i.2 i.3 h.3,
+    let S : List EpCall → Type 0 = λ x. g.E.Endpoints.refines x c.args.self.now.behind in (
+      seen_refines lent past c.args.self.now.layer h.0,
+      subst S (sym (seen_session lent past)) h.1,
+      c.agree.ensures.linked (calls_of past) (c.release.ensures.linked _ (calls_of past) h.2),
+      c.agree.ensures.reported (states_set lent past) h.3,
+      c.agree.ensures.waits ∙ ap (λ (r : ReportState). r.left) c.release.ensures.same,
+    )
+
+pub returns-else-has_renewed-clause-refines : goal.returns-else-has_renewed-clause-refines
+returns-else-has_renewed-clause-refines g c = λ lent past h.
+    let S : List EpCall → Type 0 = λ x. g.E.Endpoints.refines x c.args.self.now.behind in (
+      seen_refines lent past c.args.self.now.layer h.0,
+      subst S (sym (seen_session lent past)) h.1,
+      c.release.ensures.linked _ (calls_of past) h.2,
+      h.3,
+      ap (λ (r : ReportState). r.left) c.release.ensures.same,
     )
 
 pub returns-then-has_renewed-clause-others : goal.returns-then-has_renewed-clause-others

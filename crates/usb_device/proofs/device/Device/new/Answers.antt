@@ -9,4 +9,4 @@ unfolding session
 returns-clause-refines g c = λ lent s b e.
     let P : Bus1 → Type 0 = λ x. Link1 c.new.result x [] × InStep [] x in
     let q = subst P (sym e) (c.new.ensures.linked, λ _. refl) in
-    (s, b, q.0, q.1)
+    (s, b, q.0, q.1, c.new.ensures.waits)

@@ -4,7 +4,7 @@ use Rattle.usb_device.specs.Events.{ResetCame}
 use Rattle.usb_device.specs.Bus1.{Bus1}
 use Rattle.usb_device.specs.Through.{calls_of}
 use Rattle.usb_device.specs.representation.Link1.{Link1, InStep}
-use Rattle.usb_device.proofs.Pausing.{released_none}
+use Rattle.usb_device.proofs.Pausing.{unsent_reset}
 use Rattle.usb_device.proofs.device.DeviceEndpoints.bus_reset.Goals as goal
 
 pub returns-clause-refines : goal.returns-clause-refines
@@ -12,7 +12,7 @@ returns-clause-refines g c = λ calls p.
     let e = c.bus_reset.ensures in
     let P : Bus1 → Type 0 = λ x. Link1 c.reset.new.self x (BusReset ∷ calls_of p.1) × InStep [] x in
     let q = subst P (sym c.forget.ensures) (c.reset.ensures.linked (calls_of p.1), λ _. refl) in
-    (p.0, ResetCame ∷ p.1, (e.refines p.0 p.1 p.2.0, e.session p.0 p.1 p.2.0 p.2.1, q.0, q.1), ap (λ x. BusReset ∷ x) p.3)
+    (p.0, ResetCame ∷ p.1, (e.refines p.0 p.1 p.2.0, e.session p.0 p.1 p.2.0 p.2.1, q.0, q.1, c.reset.ensures.waits), ap (λ x. BusReset ∷ x) p.3)
 
 pub returns-clause-kept : goal.returns-clause-kept
 returns-clause-kept g c = λ from k.
@@ -22,5 +22,5 @@ returns-clause-kept g c = λ from k.
           let all = y.0 ++ past in
           let P : Bus1 → Type 0 = λ x. Link1 c.reset.new.self x (BusReset ∷ calls_of all) × InStep [] x in
           let q = subst P (sym c.forget.ensures) (c.reset.ensures.linked (calls_of all), λ _. refl) in
-          (ResetCame ∷ y.0, (e.refines lent all y.1.0, e.session lent all y.1.0 y.1.1, q.0, q.1), y.2, released_none c.reset.new.self.left (c.reset.ensures.waits []))),
+          (ResetCame ∷ y.0, (e.refines lent all y.1.0, e.session lent all y.1.0 y.1.1, q.0, q.1, c.reset.ensures.waits), y.2, λ u. unsent_reset lent all (g.B.Buffers.bus c.forget.new.self))),
     )

@@ -1,8 +1,8 @@
-use Rattle.std.proofs.Common.{[], ◌∷◌, ◌++◌, ap}
+use Rattle.std.proofs.Common.{[], ◌∷◌, ◌++◌, ap, ◌∙◌}
 use Rattle.usb_device.specs.Calls.{SetUp}
 use Rattle.usb_device.specs.Events.{SetupCame}
 use Rattle.usb_device.specs.Through.{calls_of}
-use Rattle.usb_device.proofs.Pausing.{released_none}
+use Rattle.usb_device.proofs.Pausing.{unsent_setup}
 use Rattle.usb_device.proofs.device.DeviceEndpoints.setup.Goals as goal
 
 pub returns-clause-refines : goal.returns-clause-refines
@@ -11,7 +11,7 @@ returns-clause-refines g c = λ calls p.
     let b = g.B.Buffers.bus c.args.self.now.buffers in (
       p.0,
       SetupCame c.args.packet ∷ p.1,
-      (e.refines p.0 p.1 p.2.0, e.session p.0 p.1 p.2.0 p.2.1, c.setup-2.ensures.linked b (calls_of p.1) p.2.2, p.2.3),
+      (e.refines p.0 p.1 p.2.0, e.session p.0 p.1 p.2.0 p.2.1, c.setup-2.ensures.linked b (calls_of p.1) p.2.2, p.2.3, c.setup-2.ensures.waits ∙ p.2.4),
       ap (λ x. SetUp c.args.packet ∷ x) p.3,
     )
 
@@ -23,8 +23,8 @@ returns-clause-kept g c = λ from k.
       λ lent past h. (let y = k.1 lent past h in
           let all = y.0 ++ past in (
             SetupCame c.args.packet ∷ y.0,
-            (e.refines lent all y.1.0, e.session lent all y.1.0 y.1.1, c.setup-2.ensures.linked b (calls_of all) y.1.2, y.1.3),
+            (e.refines lent all y.1.0, e.session lent all y.1.0 y.1.1, c.setup-2.ensures.linked b (calls_of all) y.1.2, y.1.3, c.setup-2.ensures.waits ∙ y.1.4),
             y.2,
-            released_none c.setup-2.new.self.left (c.setup-2.ensures.waits []),
+            λ u. unsent_setup lent c.args.packet all b,
           )),
     )

@@ -2,9 +2,9 @@ use Rattle.std.proofs.Common.{◌≡◌, ◌∷◌, ◌&&◌, true, false, refl,
 use Rattle.usb_device.specs.Bus1.{Bus1, Changed, changed_if, sent_of}
 use Rattle.usb_device.specs.Calls.{In}
 use Rattle.usb_device.specs.States.{is_empty_packet}
-use Rattle.usb_device.specs.representation.Link1.{Link1}
-use Rattle.usb_device.proofs.Reporting.{goes1, same_reports}
-use Rattle.usb_device.proofs.Layering.{reported_in_step}
+use Rattle.usb_device.specs.representation.Link1.{ReportState, Link1}
+use Rattle.usb_device.proofs.Reporting.{goes1, left_same, same_reports}
+use Rattle.usb_device.proofs.Layering.{reported_keeps, keeps_then}
 use Rattle.usb_device.proofs.report_buffers.ReportBuffers.answered.Goals as goal
 
 pub returns-then-is_change-clause-linked : goal.returns-then-is_change-clause-linked
@@ -18,12 +18,15 @@ returns-then-is_change-clause-linked g c = λ calls h.
     let yes : (is_empty_packet answer && s.protocol) ≡ true = sym c.is_change.ensures ∙ c.if-is_change.true in
     let sent : sent_of (In answer ∷ calls) ≡ Changed ∷ sent_of calls =
     ap (λ x. changed_if x (sent_of calls)) (ap (λ x. is_empty_packet answer && x) (sym h.asked) ∙ yes) in
-    c.change.ensures.linked calls (In answer ∷ calls) sent refl linked
+    let W : ReportState → Type 0 = λ x. Link1 x (g.B.Buffers.bus c.change.new.buffers) (In answer ∷ calls) in
+    subst W (sym c.wait.ensures) (left_same c.change.new.self _ (g.B.Buffers.bus c.change.new.buffers) (In answer ∷ calls) (c.change.ensures.linked calls (In answer ∷ calls) sent refl linked))
 
 pub returns-then-is_change-clause-reported : goal.returns-then-is_change-clause-reported
-returns-then-is_change-clause-reported g c = λ states h.
+returns-then-is_change-clause-reported g c =
     let t = c.taken_1-count.ensures in
-    c.change.ensures.reported states (reported_in_step t.0 states (g.B.Buffers.bus c.args.buffers.now) t.1 (g.B.Buffers.bus c.taken_1-count.new.self) t.2 t.4 h)
+    let b = g.B.Buffers.bus in
+    keeps_then (b c.args.buffers.now) (b c.taken_1-count.new.self) (b c.change.new.buffers)
+    (reported_keeps t.0 (b c.args.buffers.now) t.1 (b c.taken_1-count.new.self) t.2 t.4) c.change.ensures.reported
 
 pub returns-else-is_change-clause-linked : goal.returns-else-is_change-clause-linked
 returns-else-is_change-clause-linked g c = λ calls h.

@@ -5,7 +5,7 @@ use Rattle.usb_device.specs.contracts.report_buffers.ReportBuffers.{the_view}
 use Rattle.usb_device.specs.representation.Link1.{ReportState, Link1}
 use Rattle.usb_device.proofs.Reporting.{goes1}
 use Rattle.usb_device.proofs.Emptying.{given_up_went, given_up_waited}
-use Rattle.usb_device.proofs.Layering.{given_up_in_step}
+use Rattle.usb_device.proofs.Layering.{given_up_keeps}
 use Rattle.usb_device.proofs.report_buffers.ReportBuffers.give_up.Goals as goal
 
 pub returns-in-Goes-clause-linked : goal.returns-in-Goes-clause-linked
@@ -32,11 +32,11 @@ returns-in-Rests-clause-linked g c = λ calls later k o n a h.
     ]
 
 pub returns-in-Goes-clause-reported : goal.returns-in-Goes-clause-reported
-returns-in-Goes-clause-reported g c = λ states h.
+returns-in-Goes-clause-reported g c =
     let i = c.give_up.ensures in
-    given_up_in_step i.0 states (g.B.Buffers.bus c.args.buffers.now) i.1 (g.B.Buffers.bus c.give_up.new.self) i.2 i.3 h
+    given_up_keeps i.0 (g.B.Buffers.bus c.args.buffers.now) i.1 (g.B.Buffers.bus c.give_up.new.self) i.2 i.3
 
 pub returns-in-Rests-clause-reported : goal.returns-in-Rests-clause-reported
-returns-in-Rests-clause-reported g c = λ states h.
+returns-in-Rests-clause-reported g c =
     let i = c.give_up.ensures in
-    given_up_in_step i.0 states (g.B.Buffers.bus c.args.buffers.now) i.1 (g.B.Buffers.bus c.give_up.new.self) i.2 i.3 h
+    given_up_keeps i.0 (g.B.Buffers.bus c.args.buffers.now) i.1 (g.B.Buffers.bus c.give_up.new.self) i.2 i.3

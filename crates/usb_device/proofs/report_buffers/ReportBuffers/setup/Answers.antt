@@ -7,4 +7,4 @@ use Rattle.usb_device.proofs.report_buffers.ReportBuffers.setup.Goals as goal
 pub returns-clause-linked : goal.returns-clause-linked
 returns-clause-linked c = λ b calls h.
     let P : ReportState → Type 0 = λ x. Link1 x b calls in
-    set_up (the_view c.self.inside) 0 c.sets_protocol-self-inside.result c.args.packet b calls c.sets_protocol-self-inside.ensures (subst P (sym c.self.view_is) h)
+    set_up (the_view c.self.inside) (the_view c.self.inside).left c.sets_protocol-self-inside.result c.args.packet b calls c.sets_protocol-self-inside.ensures (subst P (sym c.self.view_is) h)

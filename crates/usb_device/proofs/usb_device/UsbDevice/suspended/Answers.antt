@@ -1,4 +1,4 @@
 use Rattle.usb_device.proofs.usb_device.UsbDevice.suspended.Goals as goal
 
-pub returns-clause-runs : goal.returns-clause-runs
-returns-clause-runs g c = λ b calls lent past h. (h.0, h.1, c.suspend.ensures.refines lent past h.2, h.3)
+pub returns-clause-goes_on : goal.returns-clause-goes_on
+returns-clause-goes_on g c = c.suspend.ensures.refines

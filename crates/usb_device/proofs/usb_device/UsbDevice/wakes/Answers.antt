@@ -1,7 +1,7 @@
 use Rattle.usb_device.proofs.usb_device.UsbDevice.wakes.Goals as goal
 
-pub returns-clause-runs : goal.returns-clause-runs
-returns-clause-runs g c = λ b calls lent past h. (h.0, h.1, c.wakes.ensures.refines lent past h.2, h.3)
+pub returns-clause-goes_on : goal.returns-clause-goes_on
+returns-clause-goes_on g c = c.wakes.ensures.refines
 
 pub returns-clause-answer : goal.returns-clause-answer
-returns-clause-answer g c = λ b calls lent past h. c.wakes.ensures.answer lent past h.2.0
+returns-clause-answer g c = λ lent past h. c.wakes.ensures.answer lent past h.0

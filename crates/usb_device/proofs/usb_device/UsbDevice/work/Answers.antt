@@ -1,6 +1,5 @@
 use Rattle.usb_device.specs.Steps.{session}
 use Rattle.usb_device.proofs.usb_device.UsbDevice.work.Goals as goal
 
-pub returns-clause-runs : goal.returns-clause-runs
-returns-clause-runs g c = λ b calls lent past h.
-    (h.0, h.1, (h.2.0, c.work.ensures.refines (session lent past) h.2.1, h.2.2, h.2.3), h.3)
+pub returns-clause-goes_on : goal.returns-clause-goes_on
+returns-clause-goes_on g c = λ lent past h. (h.0, c.work.ensures.refines (session lent past) h.1, h.2, h.3, h.4)

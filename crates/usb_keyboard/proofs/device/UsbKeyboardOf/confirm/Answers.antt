@@ -1,7 +1,7 @@
 use Rattle.std.proofs.Common.{◌≡◌, ◌++◌, ◌∷◌, [], sym, ap, ◌∙◌, refl, subst, arith}
 use Rattle.usb_device.specs.Whole.{status_of}
 use Rattle.keyboard.specs.Calls.{In}
-use Rattle.keyboard.proofs.Timing.{is_in_time}
+use Rattle.keyboard.proofs.Timing.{in_time}
 use Rattle.usb_keyboard.specs.Whole.{put_off}
 use Rattle.usb_keyboard.proofs.Faults.{Raises, no_steps, none_fails, in_either}
 use Rattle.usb_keyboard.proofs.Writing.{waited_more, done_by}
@@ -49,7 +49,7 @@ loop-asked-preserved g c = (
       let i = c.loop-asked.invariant.0 start past r in
       let a = c.in_packet.ensures.reported start (put_off i.0 ++ past) i.1 in
       waited_more g.D.Defaults.defaults start past i.0 a.0 c.step-work.result _ _ c.loop-asked._asked _ (ap status_of (sym a.2) ∙ sym c.status_of.ensures ∙ c.in-Waits.is)
-      (c.step-work.ensures.reported start (In a.0 ∷ put_off i.0 ++ past) a.1) (is_in_time g.D.Defaults.defaults start (put_off i.0 ++ past) _ i.1.refines) i.2 i.4
+      (c.step-work.ensures.reported start (In a.0 ∷ put_off i.0 ++ past) a.1) (in_time g.D.Defaults.defaults start (put_off i.0 ++ past) i.1.refines.answered) i.2 i.4
       (λ x. (c.step-work.ensures.faultless (subst g.F.NorFlash.is_faultless (sym c.in_packet.ensures.flash) (c.loop-asked.invariant.1 x))).1) _ _ _ _ _
       (subst (λ f. Raises i.0 (g.F.NorFlash.faults c.args.self.now.1) (g.F.NorFlash.faults f)) (sym c.in_packet.ensures.flash) i.5) c.step-work.ensures.counts,
   λ x. (c.step-work.ensures.faultless (subst g.F.NorFlash.is_faultless (sym c.in_packet.ensures.flash) (c.loop-asked.invariant.1 x))).0,
