@@ -62,11 +62,11 @@ impl Value {
     }
 
     /// How many bytes there are.
-    pub(crate) fn len(&self) -> usize
+    pub(crate) fn len(&self) -> u8
         ensures len { result ≡ length self.now }
         ensures short { result ≤ 64 }
     {
-        self.len as usize
+        self.len
     }
 
     /// The same value again.

@@ -252,17 +252,17 @@ fn nearer(best: u32, from: u32, id: u16) -> u32
 }
 
 /// How many words the values take after some changes, and more than 511 where they do not fit.
-pub fn words_alive<F: NorFlash>(log: &Log, flash: &F, changes: &[Change]) -> usize
+pub fn words_alive<F: NorFlash>(log: &Log, flash: &F, changes: &[Change]) -> u16
     requires { Describes (F.image flash.now) log.now }
     ensures exact { result ≤ 511 → result ≡ length (all_copies (changed (F.image flash.now) changes.now)) }
     ensures beyond { 511 < result → 511 < length (all_copies (changed (F.image flash.now) changes.now)) }
 {
     let mut sum = 0;
     let mut from = 0;
-    while from < IDS && sum <= PAGE_WORDS {
+    while from < IDS && sum <= PAGE_WORDS as u16 {
         match next_value(log, flash, changes, from) {
             Some(change) => {
-                sum += size(&change);
+                sum += size(&change) as u16;
                 from = u32::from(change.id) + 1;
             }
             None => return sum,

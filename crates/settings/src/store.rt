@@ -60,10 +60,10 @@ pub enum Job {
     /// Nothing.
     Resting,
     /// The words of one change, of which so many are there.
-    Appending(usize),
+    Appending(u8),
     /// A compaction to a page with all values: it was given the words of the ids below `from`, and `at` of
     /// those of `from`.
-    Turning { from: u32, at: usize },
+    Turning { from: u32, at: u8 },
 }
 
 /// Settings in flash.
@@ -149,7 +149,7 @@ impl Settings {
         ensures fits { alive (F.image flash.now) [] ≤ 511 → result + alive (F.image flash.now) [] ≡ 511 }
         ensures full { 511 < alive (F.image flash.now) [] → result ≡ 0 }
     {
-        let alive = words_alive(&self.log, flash, &[]);
+        let alive = words_alive(&self.log, flash, &[]) as usize;
         if alive < PAGE_WORDS {
             PAGE_WORDS - alive
         } else {
@@ -250,7 +250,7 @@ impl Settings {
             self.job = Job::Appending(0);
             return Ok(());
         }
-        if words_alive(&self.log, flash, changes) > PAGE_WORDS {
+        if words_alive(&self.log, flash, changes) > PAGE_WORDS as u16 {
             return Err(SettingsError::Full);
         }
         match self.log.begin_turn() {
@@ -347,7 +347,7 @@ impl Settings {
     }
 
     /// Appends the next word of the change.
-    fn append<F: NorFlash>(&mut self, flash: &mut F, changes: &[Change], at: usize) -> Work
+    fn append<F: NorFlash>(&mut self, flash: &mut F, changes: &[Change], at: u8) -> Work
         requires refines { Relation (F.image flash.old) changes.now self.old }
         requires job { self.old.job ≡ Job.Appending at }
         ensures refines { Relation (F.image flash.new) changes.now self.new }
@@ -374,7 +374,7 @@ impl Settings {
     }
 
     /// One word more of the change is there, and with the last one the change is in force.
-    fn count(&mut self, change: &Change, at: usize) -> Work
+    fn count(&mut self, change: &Change, at: u8) -> Work
         requires { at < length (words_of change.now) }
         ensures log { self.new.log ≡ self.old.log }
         ensures more { at + 1 < length (words_of change.now) → (result ≡ Work.Working) × (self.new.job ≡ Job.Appending (at + 1)) }
@@ -391,7 +391,7 @@ impl Settings {
     }
 
     /// Goes on with a compaction.
-    fn turn<F: NorFlash>(&mut self, flash: &mut F, changes: &[Change], from: u32, at: usize) -> Work
+    fn turn<F: NorFlash>(&mut self, flash: &mut F, changes: &[Change], from: u32, at: u8) -> Work
         requires refines { Relation (F.image flash.old) changes.now self.old }
         requires job { self.old.job ≡ Job.Turning from at }
         ensures refines { Relation (F.image flash.new) changes.now self.new }
@@ -421,7 +421,7 @@ impl Settings {
     }
 
     /// Offers a waiting compaction its next word, or its header after the last one.
-    fn offer_next<F: NorFlash>(&mut self, flash: &F, changes: &[Change], from: u32, at: usize)
+    fn offer_next<F: NorFlash>(&mut self, flash: &F, changes: &[Change], from: u32, at: u8)
         requires refines { Relation (F.image flash.now) changes.now self.old }
         requires job { self.old.job ≡ Job.Turning from at }
         ensures { IsOffered (F.image flash.now) changes.now self.old self.new }
@@ -440,7 +440,7 @@ impl Settings {
 }
 
 /// A compaction that was given the words of a change up to this one.
-fn behind(change: &Change, at: usize) -> Job
+fn behind(change: &Change, at: u8) -> Job
     requires { at < length (words_of change.now) }
     ensures more { at + 1 < length (words_of change.now) → result ≡ Job.Turning change.now.id (at + 1) }
     ensures last { length (words_of change.now) ≤ at + 1 → result ≡ Job.Turning (change.now.id + 1) 0 }
@@ -471,7 +471,7 @@ fn has_room(log: &Log, changes: &[Change]) -> bool
 }
 
 /// Whether there is room for so many words.
-fn has_room_for(log: &Log, words: usize) -> bool
+fn has_room_for(log: &Log, words: u8) -> bool
     requires { (1 ≤ words) × (words ≤ 64) }
     ensures { (image : List ℕ) → Describes image log.now → (IsTrue result ↔ HasRoomFor image words) }
 {
@@ -479,7 +479,7 @@ fn has_room_for(log: &Log, words: usize) -> bool
         return false;
     }
     match log.tail() {
-        Some(tail) => tail <= PAGE_WORDS + 1 - words,
+        Some(tail) => tail <= PAGE_WORDS + 1 - words as usize,
         None => false,
     }
 }

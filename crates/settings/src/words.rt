@@ -77,7 +77,7 @@ pub fn is_known(word: u32) -> bool
 }
 
 /// How many words a change has, 1 to 23.
-pub fn size(change: &Change) -> usize
+pub fn size(change: &Change) -> u8
     ensures words { result ≡ length (words_of change.now) }
     ensures few { (1 ≤ result) × (result ≤ 23) }
 {
@@ -88,7 +88,7 @@ pub fn size(change: &Change) -> usize
 }
 
 /// A word of a change, from 0 on.
-pub fn word_at(change: &Change, at: usize) -> u32
+pub fn word_at(change: &Change, at: u8) -> u32
     requires { at < length (words_of change.now) }
     ensures word { result ≡ slice_index (words_of change.now) at }
     ensures small { result < 2 ^ 31 }
@@ -100,7 +100,7 @@ pub fn word_at(change: &Change, at: usize) -> u32
 }
 
 /// A word of an id and its value.
-fn value_word_at(id: u16, value: &Value, at: usize) -> u32
+fn value_word_at(id: u16, value: &Value, at: u8) -> u32
     requires { at < 1 + (length value.now + 2) / 3 }
     ensures word { result ≡ slice_index (words_with id (Some value.now)) at }
     ensures small { result < 2 ^ 31 }
@@ -114,14 +114,14 @@ fn value_word_at(id: u16, value: &Value, at: usize) -> u32
 }
 
 /// The word of three bytes from one on; what is missing is zeros.
-fn data_word(bytes: &[u8], at: usize) -> u32
+fn data_word(bytes: &[u8], at: u8) -> u32
     requires { at ≤ 64 }
     ensures word { result ≡ data_word (slice_index bytes.now at) (slice_index bytes.now (at + 1)) (slice_index bytes.now (at + 2)) }
     ensures small { result < 2 ^ 31 }
 {
-    let a = byte_at(bytes, at);
-    let b = byte_at(bytes, at + 1);
-    let c = byte_at(bytes, at + 2);
+    let a = byte_at(bytes, at as usize);
+    let b = byte_at(bytes, (at + 1) as usize);
+    let c = byte_at(bytes, (at + 2) as usize);
     DATA + c * TWO_BYTES + b * BYTE + a
 }
 

@@ -45,7 +45,7 @@ pub fn words(image: &[u8]) -> Vec<u32> {
     newest(image).map_or(Vec::new(), |(page, ..)| (1..512).filter_map(|at| word(image, page, at)).collect())
 }
 
-/// The first slot behind all that are not blank on a page.
+/// The first slot after all that are not blank on a page.
 pub fn tail(image: &[u8], page: usize) -> usize {
     (1..512).rev().find(|&at| slot(image, page, at) != [0xFF; 8]).map_or(1, |at| at + 1)
 }

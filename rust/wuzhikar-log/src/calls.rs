@@ -65,10 +65,10 @@ impl Unstarted for Log {
     const UNSTARTED: Log = Log::UNSTARTED;
 }
 
-/// Calls of a flash in memory that take what stands for the source's allocator.
+/// Calls of a flash in memory that take the stand-in for the source's allocator.
 #[cfg(feature = "sim")]
 pub trait SimCalls: Sized {
-    /// A blank flash: see [`SimFlash::blank`](crate::SimFlash::blank).
+    /// Makes a blank flash: see [`SimFlash::blank`](crate::SimFlash::blank).
     fn new(alloc: crate::rattle::alloc::Global, pages: usize) -> Result<Self, crate::FlashError>;
 }
 

@@ -88,7 +88,7 @@ pub enum DriverFault {
 ///
 /// It does not see what a power loss leaves, what changes by itself, or what error correction makes of a torn write. Nor does
 /// it see reads that come from a buffer and not from the cells, or what an operation does **outside of the pages**: fill the
-/// flash around them with a pattern, and compare it behind the check.
+/// flash around them with a pattern, and compare it after the check.
 ///
 /// # Errors
 ///
@@ -203,7 +203,7 @@ impl<F: NorFlash> Check<'_, F> {
         Err(if now == meant { DriverFault::ByteOrder(place) } else { DriverFault::NotProgrammed(place) })
     }
 
-    /// Whether the slots behind this one take no word but those whose bytes, and those of their checks, read the same in another
+    /// Whether the slots after this one take no word but those whose bytes, and those of their checks, read the same in another
     /// order: with the bytes of each four turned round, or those of all eight.
     fn takes_mirrored_words_alone(&mut self, place: Place) -> bool {
         let behind = |count| Place { slot: place.slot + count, ..place };

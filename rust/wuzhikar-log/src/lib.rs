@@ -1,4 +1,4 @@
-//! A log of words of 32 bits in NOR flash, which survives every power loss.
+//! A log of words of 32 bits in NOR flash, which survives every power loss on flash that keeps the contract of [`NorFlash`].
 //!
 //! [`FlashLog`] is the log with its flash; [`Log`] is the log alone, which borrows its flash at each call. The trait
 //! [`NorFlash`] is the flash: 2 to 8 pages of 512 slots of 8 bytes. A slot keeps a word beside its complement. When a page
@@ -64,8 +64,8 @@ pub mod calls;
 mod check_driver;
 mod driver;
 mod face;
-mod marked_flash;
 mod marked_units;
+mod mend;
 mod page_count;
 #[doc(hidden)]
 pub mod parts;
@@ -84,8 +84,8 @@ mod whole;
 pub use crate::check_driver::{DriverFault, Place, check_driver, check_marks};
 pub use crate::driver::FlashDriver;
 pub use crate::face::{FlashLog, LogRefusal};
-pub use crate::marked_flash::MarkedFlash;
 pub use crate::marked_units::MarkedUnits;
+pub use crate::mend::mend_pages;
 pub use crate::page_count::PageCount;
 pub use crate::parts::ecc_flash::{EccFlash, PAGE_UNITS, PairedFlash, UNIT_BYTES};
 #[cfg(feature = "sim")]
@@ -96,10 +96,10 @@ pub use crate::parts::page_turnover::{Log, Step, TurnRefusal, Unsound, Words};
 pub use crate::parts::settings::{
     Change, FREE_ENTRY, MAX_BYTES, SettingsError, TableTooSmall, Value, Work, table_contains, table_value,
 };
+pub use crate::parts::steady_flash::{MarkedFlash, MountError, SteadyFlash, Unmounted};
 #[cfg(feature = "settings")]
 pub use crate::settings::{FlashSettings, UnderWay};
 pub use crate::slot_flash::SlotFlash;
-pub use crate::steady_flash::{MountError, SteadyFlash, Unmounted};
 pub use crate::unit_flash::UnitFlash;
 pub use crate::units::GeometryError;
 pub use crate::whole::{Dropped, WriteError};

@@ -6,8 +6,8 @@ mod tests;
 use core::cell::Cell;
 
 use crate::driver::FlashDriver;
-use crate::marked_flash::MarkedFlash;
 use crate::parts::flash_model::{FlashFault, PAGE_SLOTS, SLOT_BYTES};
+use crate::parts::steady_flash::MarkedFlash;
 use crate::units::{GeometryError, Units};
 
 /// What a slot reads as where the driver's read failed: neither free nor a word, nor a mark.

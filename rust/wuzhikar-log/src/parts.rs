@@ -8,3 +8,4 @@ pub mod flash_model;
 pub mod page_turnover;
 pub mod records;
 pub mod settings;
+pub mod steady_flash;

@@ -13,13 +13,13 @@ use crate::units::{GeometryError, Units};
 /// Each unit of 8 bytes stands in a write unit of its own, filled up with FFh, and each page of 1,024 units in whole
 /// erase units. [`PairedFlash`](crate::PairedFlash) makes the flash of a log from it.
 ///
-/// Beside what [`FlashDriver`] says, of the driver's `read` is asked that it
+/// The driver's `read` must do more than [`FlashDriver`] asks:
 ///
-/// - answers an error where the chip reports one that it could not correct, and lets the program go on where the chip
-///   reports it by an interrupt;
-/// - answers an error where eight bytes read as FFh and the chip reports a bit that it corrected in their unit: FFh says
-///   that each cell is set;
-/// - answers the same until the next write or erase.
+/// - It returns an error if the chip reports one that it could not correct. If the chip does so by an interrupt, the driver
+///   lets the program go on.
+/// - It returns an error if eight bytes read as FFh and the chip reports a corrected bit in their unit: FFh means that each
+///   cell is set.
+/// - It returns the same until the next write or erase.
 ///
 /// The chip has to correct one bit of these eight bytes at most: error correction over fewer than 8 bytes does not serve.
 ///

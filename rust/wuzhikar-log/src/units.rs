@@ -76,8 +76,8 @@ struct Layout {
 }
 
 impl Layout {
-    /// Each unit in whole write units, and each page of `units` units in whole erase units.
-    const fn of(read: usize, write: usize, erase: usize, units: u32) -> Result<Layout, GeometryError> {
+    /// Puts each unit into whole write units, and each page of `units` units into whole erase units.
+    const fn for_units(read: usize, write: usize, erase: usize, units: u32) -> Result<Layout, GeometryError> {
         if write == 0 || write > LONGEST_WRITE {
             return Err(GeometryError::WriteUnit);
         }
@@ -106,7 +106,7 @@ pub(crate) struct Units<D, const UNITS: u32> {
 }
 
 impl<D: FlashDriver, const UNITS: u32> Units<D, UNITS> {
-    const CHECKED: Result<Layout, GeometryError> = Layout::of(D::READ_SIZE, D::WRITE_SIZE, D::ERASE_SIZE, UNITS);
+    const CHECKED: Result<Layout, GeometryError> = Layout::for_units(D::READ_SIZE, D::WRITE_SIZE, D::ERASE_SIZE, UNITS);
 
     /// The layout, where `new` has let it pass.
     const LAYOUT: Layout = match Self::CHECKED {
@@ -124,7 +124,7 @@ impl<D: FlashDriver, const UNITS: u32> Units<D, UNITS> {
         Self::with_more(driver, start, pages, 0, 0)
     }
 
-    /// Pages for a log, so many more, and so many bytes behind them.
+    /// Pages for a log, so many more, and so many bytes after them.
     pub(crate) fn with_more(driver: D, start: u32, pages: usize, more: usize, behind: u64) -> Result<Self, GeometryError> {
         let layout = Self::CHECKED?;
         if !(2..=8).contains(&pages) {
@@ -212,7 +212,7 @@ impl<D: FlashDriver, const UNITS: u32> Units<D, UNITS> {
     }
 }
 
-/// Eight bytes, and FFh behind them.
+/// Eight bytes, and FFh after them.
 fn filled<const LENGTH: usize>(bytes: [u8; UNIT_BYTES]) -> [u8; LENGTH] {
     let mut longer = [0xFF; LENGTH];
     longer[..UNIT_BYTES].copy_from_slice(&bytes);

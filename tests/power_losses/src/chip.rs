@@ -4,6 +4,7 @@
 use wuzhikar_log::FlashDriver;
 
 use crate::code::{Code, Read};
+use crate::doubtful::is_word;
 use crate::power::{ChipError, Fate, Operation, Power};
 use crate::random::Random;
 
@@ -30,7 +31,6 @@ pub enum Again {
     /// With the same bits as before, or with zeros.
     SameBits,
     /// With any bits.
-    #[cfg(test)]
     Any,
 }
 
@@ -78,7 +78,7 @@ impl<const READ: usize, const WRITE: usize, const ERASE: usize> Chip<READ, WRITE
     /// An erased flash without error correction.
     pub fn plain(capacity: usize, cells: Cells, power: Power, seed: u64) -> Self {
         let units = vec![Unit::ERASED; capacity / WRITE];
-        Chip { cells, again: Again::Never, code: None, units, power, random: Random::of(seed) }
+        Chip { cells, again: Again::Never, code: None, units, power, random: Random::from_seed(seed) }
     }
 
     /// The same, which takes writes again.
@@ -86,12 +86,23 @@ impl<const READ: usize, const WRITE: usize, const ERASE: usize> Chip<READ, WRITE
         Chip { again, ..self }
     }
 
+    /// The same with other cells.
+    pub fn with_cells(self, cells: Cells) -> Self {
+        Chip { cells, ..self }
+    }
+
+    /// A flash that a plain log may be on: its erase only sets bits. A torn cell wavers all the same.
+    pub fn into_plain(self) -> Self {
+        let cells = Cells { program_first: false, ..self.cells };
+        self.with_cells(cells).again(Again::Any)
+    }
+
     /// An erased flash with error correction over each write unit.
     pub fn corrected(capacity: usize, cells: Cells, power: Power, seed: u64) -> Self {
-        let code = Code::of(WRITE);
+        let code = Code::for_bytes(WRITE);
         let erased = Unit { check: code.erased(), ..Unit::ERASED };
         let units = vec![erased; capacity / WRITE];
-        Chip { cells, again: Again::Never, units, code: Some(code), power, random: Random::of(seed) }
+        Chip { cells, again: Again::Never, units, code: Some(code), power, random: Random::from_seed(seed) }
     }
 
     /// Turns some cells of the first eight bytes of a unit.
@@ -210,6 +221,18 @@ impl<const READ: usize, const WRITE: usize, const ERASE: usize> Chip<READ, WRITE
         self.set(unit, mask);
     }
 
+    /// Of a torn erase no mark reads as a word that it did not hold (`MarkedFlash`).
+    fn forges_nothing(&mut self, torn: std::ops::Range<usize>, before: &[u8]) {
+        let after: Vec<u8> = self.units[torn.clone()].iter().flat_map(|unit| unit.data).collect();
+        for (at, (now, before)) in after.chunks_exact(8).zip(before.chunks_exact(8)).enumerate() {
+            let bits = u64::from_le_bytes(std::array::from_fn(|byte| now[byte]));
+            if now != before && is_word(bits) {
+                let first = torn.start + 8 * at / WRITE;
+                self.units[first..first + 8usize.div_ceil(WRITE)].iter_mut().for_each(|unit| unit.data.fill(0));
+            }
+        }
+    }
+
     /// What is answered of an operation that was not made whole. With error correction one that was torn while the power stayed on
     /// may be told as done.
     fn unmade(&mut self) -> Result<(), ChipError> {
@@ -273,7 +296,6 @@ impl<const READ: usize, const WRITE: usize, const ERASE: usize> FlashDriver for 
         let takes = |(unit, part): (&Unit<WRITE>, &&[u8])| match again {
             Again::Never => unit.is_erased(erased),
             Again::SameBits => unit.takes_again(part),
-            #[cfg(test)]
             Again::Any => true,
         };
         if !self.units[range.clone()].iter().zip(&parts).all(takes) {
@@ -305,9 +327,12 @@ impl<const READ: usize, const WRITE: usize, const ERASE: usize> FlashDriver for 
             return Ok(());
         }
         let in_first = self.cells.program_first && self.random.below(2) == 0;
-        for unit in whole..whole + of_one {
+        let torn = whole..whole + of_one;
+        let before: Vec<u8> = self.units[torn.clone()].iter().flat_map(|unit| unit.data).collect();
+        for unit in torn.clone() {
             self.tear_erase(unit, in_first);
         }
+        self.forges_nothing(torn, &before);
         self.unmade()
     }
 

@@ -27,7 +27,7 @@ pub enum Read {
 
 impl Code {
     /// The code of units of `bytes` bytes, up to 32.
-    pub fn of(bytes: usize) -> Code {
+    pub fn for_bytes(bytes: usize) -> Code {
         let checks = if bytes <= 8 {
             8
         } else if bytes <= 16 {
@@ -93,9 +93,9 @@ mod tests {
 
     #[test]
     fn one_cell_is_corrected_and_two_are_reported() {
-        let mut random = Random::of(3);
+        let mut random = Random::from_seed(3);
         for (bytes, checks) in [(8, 8), (16, 9), (32, 10)] {
-            let code = Code::of(bytes);
+            let code = Code::for_bytes(bytes);
             let data: Vec<u8> = (0..bytes).map(|_| random.next() as u8).collect();
             assert_eq!(code.read(&data, code.check(&data)), Read::Clean);
             for one in 0..8 * bytes + checks {
@@ -112,7 +112,7 @@ mod tests {
     #[test]
     fn an_erased_unit_is_clean() {
         for bytes in [8, 16, 32] {
-            let code = Code::of(bytes);
+            let code = Code::for_bytes(bytes);
             assert_eq!(code.read(&vec![0xFF; bytes], code.erased()), Read::Clean);
         }
     }

@@ -3,12 +3,14 @@
 
 use std::cell::RefCell;
 
-use wuzhikar_log::{FlashFault, MarkedFlash, MountError, PAGE_SLOTS, SLOT_BYTES, SteadyFlash, Unmounted};
+use wuzhikar_log::{FlashFault, MarkedFlash, MountError, NorFlash, PAGE_SLOTS, SLOT_BYTES, SteadyFlash, Unmounted};
 
 use crate::chip::{Again, Cells};
 use crate::flashes::Adapter;
 use crate::power::{Fate, Operation, Power};
 use crate::random::Random;
+use crate::runner::{Broken, Stage};
+use crate::subjects::Subject;
 
 /// The marks of a page are so many times three, and one.
 const TRIPLES: usize = 8;
@@ -41,7 +43,23 @@ impl Doubtful {
     /// An erased flash for a log of so many pages.
     pub fn erased(pages: usize, cells: Cells, again: Again, power: Power, seed: u64) -> Doubtful {
         let (slots, marks) = (vec![ERASED; (pages + 1) * PAGE_SLOTS], vec![ERASED; (pages + 1) * MARKS]);
-        Doubtful { cells, again, extreme: seed % 2 == 0, slots, marks, power, random: RefCell::new(Random::of(seed)) }
+        Doubtful { cells, again, extreme: seed % 2 == 0, slots, marks, power, random: RefCell::new(Random::from_seed(seed)) }
+    }
+
+    /// The same cells, each page one page on.
+    #[cfg(test)]
+    pub fn moved(mut self) -> Doubtful {
+        self.slots.rotate_right(PAGE_SLOTS);
+        self.marks.rotate_right(MARKS);
+        self
+    }
+
+    /// The flash behind a session of a plain log, whose erases only set bits.
+    pub fn after_plain<S: Subject>(self, subject: &mut S, stage: &mut Stage) -> Result<Doubtful, Broken> {
+        let (cells, again) = (self.cells, self.again);
+        let plain = Doubtful { cells: Cells { program_first: false, ..cells }, again: Again::Any, ..self };
+        let Slots(chip) = subject.session(Slots(plain), stage)?;
+        Ok(Doubtful { cells, again, ..chip })
     }
 
     fn read(&self, unit: Unit) -> [u8; SLOT_BYTES] {
@@ -60,7 +78,6 @@ impl Doubtful {
         let takes = match self.again {
             Again::Never => unit.written.is_none(),
             Again::SameBits => unit.written.is_none_or(|written| written == word) || word == 0,
-            #[cfg(test)]
             Again::Any => true,
         };
         if !takes {
@@ -98,20 +115,29 @@ impl Doubtful {
         units[..whole].fill(ERASED);
         let in_first = self.cells.program_first && random.below(2) == 0;
         for unit in &mut units[whole..] {
-            let (mask, doubt) = torn(self.cells, self.extreme, random);
+            let (before, (mask, doubt)) = (unit.data, torn(self.cells, self.extreme, random));
             if in_first {
                 clear(unit, 0, mask, doubt);
-                continue;
+            } else {
+                if self.cells.program_first {
+                    clear(unit, 0, u64::MAX, 0);
+                }
+                let changed = (!unit.data | unit.doubt) & mask;
+                unit.data |= changed & !doubt;
+                unit.doubt = unit.doubt & !changed | changed & doubt;
             }
-            if self.cells.program_first {
-                clear(unit, 0, u64::MAX, 0);
+            // No word comes from nowhere (`MarkedFlash`).
+            if is_word(unit.data) && unit.data != before {
+                *unit = Unit { data: 0, doubt: 0, ..*unit };
             }
-            let changed = (!unit.data | unit.doubt) & mask;
-            unit.data |= changed & !doubt;
-            unit.doubt = unit.doubt & !changed | changed & doubt;
         }
         Err(FlashFault)
     }
+}
+
+/// Whether these are a word beside its complement, which is turned by a bit.
+pub fn is_word(bits: u64) -> bool {
+    (bits >> 32) as u32 == (!(bits as u32)).rotate_left(1)
 }
 
 /// Which cells a torn operation reaches, and which of them it leaves in doubt.
@@ -200,5 +226,30 @@ impl Adapter for SteadyFlash<Doubtful> {
 
     fn stop(self) -> Doubtful {
         self.into_flash()
+    }
+
+    fn after_plain<S: Subject>(chip: Doubtful, _: usize, subject: &mut S, stage: &mut Stage) -> Result<Doubtful, Broken> {
+        chip.after_plain(subject, stage)
+    }
+}
+
+/// The slots of all pages but the last one, as a plain log has them.
+struct Slots(Doubtful);
+
+impl NorFlash for Slots {
+    fn pages(&self) -> usize {
+        MarkedFlash::pages(&self.0) - 1
+    }
+
+    fn read_slot(&self, page: usize, slot: usize) -> [u8; SLOT_BYTES] {
+        MarkedFlash::read_slot(&self.0, page, slot)
+    }
+
+    fn program_slot(&mut self, page: usize, slot: usize, bytes: [u8; SLOT_BYTES]) -> Result<(), FlashFault> {
+        MarkedFlash::program_slot(&mut self.0, page, slot, bytes)
+    }
+
+    fn erase_page(&mut self, page: usize) -> Result<(), FlashFault> {
+        self.0.erase_slots(page)
     }
 }

@@ -10,7 +10,7 @@ use wuzhikar_log::{MarkedUnits, MountError, NorFlash, PairedFlash, SlotFlash, St
 use crate::chip::{Again, Cells, Chip, STEADY, WAVERING};
 use crate::doubtful::Doubtful;
 use crate::power::Power;
-use crate::runner::{Broken, Tally, life};
+use crate::runner::{Broken, Stage, Tally, life};
 use crate::subjects::Subject;
 
 /// Where page 0 starts, in erase units.
@@ -36,6 +36,16 @@ pub trait Adapter: NorFlash + Sized {
 
     /// The chip as it is.
     fn stop(self) -> Self::Chip;
+
+    /// A session on the plain flash that these pages were before, if they may have been one; the chip behind its loss of power.
+    fn after_plain<S: Subject>(
+        chip: Self::Chip,
+        _pages: usize,
+        _subject: &mut S,
+        _stage: &mut Stage,
+    ) -> Result<Self::Chip, Broken> {
+        Ok(chip)
+    }
 }
 
 /// Slots on a flash without error correction.
@@ -82,6 +92,16 @@ impl<const READ: usize, const WRITE: usize, const ERASE: usize> Adapter for Stea
 
     fn stop(self) -> Self::Chip {
         self.into_flash().into_driver()
+    }
+
+    fn after_plain<S: Subject>(
+        chip: Self::Chip,
+        pages: usize,
+        subject: &mut S,
+        stage: &mut Stage,
+    ) -> Result<Self::Chip, Broken> {
+        let plain = SlotFlash::new(chip.into_plain(), (BEFORE * ERASE) as u32, pages).expect("a geometry that serves");
+        Ok(subject.session(plain, stage)?.into_driver().with_cells(WAVERING).again(Again::SameBits))
     }
 }
 
@@ -179,21 +199,21 @@ const A_LIFE: u64 = 500;
 /// How many power losses a short life has.
 const A_SHORT_LIFE: u64 = 12;
 
-/// At least `cuts` power losses over all flashes, as many on each; the report.
-pub fn over_all<S: Subject>(cuts: u64) -> Result<String, String> {
+/// Runs lives of at least `cuts` power losses over all flashes, as many on each, and returns the report.
+pub fn long_lives<S: Subject>(cuts: u64) -> Result<String, String> {
     let flashes = flashes::<S>();
     let lives = cuts.div_ceil(A_LIFE * flashes.len() as u64).max(1);
-    report::<S>(&flashes, &over(&flashes, lives, A_LIFE.min(cuts))?)
+    report::<S>(&flashes, &run_lives(&flashes, lives, A_LIFE.min(cuts))?)
 }
 
-/// So many short lives on a flash in memory whose cells waver; the report.
+/// Runs so many short lives on a flash in memory whose cells waver, and returns the report.
 pub fn short_lives<S: Subject>(lives: u64) -> Result<String, String> {
     let flashes = [Flash { name: "slots and marks in memory, cells that waver", life: doubtful::<S> }];
-    report::<S>(&flashes, &over(&flashes, lives, A_SHORT_LIFE)?)
+    report::<S>(&flashes, &run_lives(&flashes, lives, A_SHORT_LIFE)?)
 }
 
-/// So many lives on each flash of so many losses of power, or the first thing that is broken, with its flash and seed.
-fn over(flashes: &[Flash], lives: u64, cuts: u64) -> Result<Vec<Tally>, String> {
+/// Runs so many lives on each flash, of so many power losses each. An error is the first thing that is broken, with its flash and seed.
+fn run_lives(flashes: &[Flash], lives: u64, cuts: u64) -> Result<Vec<Tally>, String> {
     let jobs = lives as usize * flashes.len();
     let next = AtomicUsize::new(0);
     let answers = Mutex::new(vec![None; jobs]);

@@ -24,21 +24,21 @@ mod wrong;
 
 use std::process::ExitCode;
 
-use flashes::{over_all, short_lives};
+use flashes::{long_lives, short_lives};
 use other::Other;
 use subjects::{InC, InRust, Keyboard, Log, Pages, Settings};
 use wuzhikar::Standard;
 
 const LOSSES: u64 = 100_000;
 
-/// The lives of the subject of this name, half of a keyboard's with another layout; settings also by the calls of C.
-fn of(name: &str, losses: u64) -> Result<String, String> {
+/// Runs the lives of the subject of this name: of a keyboard half with another layout, of settings also by the calls of C.
+fn lives_of(name: &str, losses: u64) -> Result<String, String> {
     match name {
-        "log" => over_all::<Log>(losses),
-        "settings" => Ok(over_all::<Settings<InRust>>(losses)? + &over_all::<Settings<InC>>(losses.div_ceil(4))?),
+        "log" => long_lives::<Log>(losses),
+        "settings" => Ok(long_lives::<Settings<InRust>>(losses)? + &long_lives::<Settings<InC>>(losses.div_ceil(4))?),
         "keyboard" => {
             let half = losses.div_ceil(2);
-            Ok(over_all::<Keyboard<Standard>>(half)? + &over_all::<Keyboard<Other>>(half)?)
+            Ok(long_lives::<Keyboard<Standard>>(half)? + &long_lives::<Keyboard<Other>>(half)?)
         }
         "lives" => {
             let kept = short_lives::<Log>(losses.div_ceil(4))? + &short_lives::<Settings<InRust>>(losses.div_ceil(4))?;
@@ -48,7 +48,7 @@ fn of(name: &str, losses: u64) -> Result<String, String> {
     }
 }
 
-/// The subjects and the number that the words of the command line name.
+/// Returns the subjects and the number that the command line names.
 fn asked(mut words: Vec<String>) -> (Vec<String>, u64) {
     let losses = words.last().and_then(|word| word.parse().ok()).filter(|&losses| losses > 0);
     if losses.is_some() {
@@ -63,7 +63,7 @@ fn asked(mut words: Vec<String>) -> (Vec<String>, u64) {
 fn main() -> ExitCode {
     let (names, losses) = asked(std::env::args().skip(1).collect());
     for name in names {
-        match of(&name, losses) {
+        match lives_of(&name, losses) {
             Ok(report) => print!("{report}"),
             Err(broken) => {
                 println!("power_losses: {broken}");
@@ -77,12 +77,13 @@ fn main() -> ExitCode {
 #[cfg(test)]
 mod tests {
     use super::*;
-    use crate::chip::{Cells, WAVERING};
-    use crate::doubtful::Doubtful;
-    use crate::flashes::{Adapter, Paired, Plain};
+    use crate::chip::{Again, Cells, WAVERING};
+    use crate::doubtful::{Doubtful, is_word};
+    use crate::flashes::{Adapter, Paired, Plain, Steady};
+    use crate::power::Power;
     use crate::runner::life;
     use crate::subjects::Subject;
-    use wuzhikar_log::SteadyFlash;
+    use wuzhikar_log::{MarkedFlash, SteadyFlash};
 
     /// Whether one of 100 lives on such cells is broken.
     fn breaks<S: Subject, A: Adapter>(cells: Cells) -> bool {
@@ -102,11 +103,41 @@ mod tests {
         assert!(breaks::<Keyboard<Standard>, Paired<8, 2048>>(cells), "{cells:?}");
     }
 
+    /// Random sessions of a keyboard lose something in most lives on a plain flash, and nothing on a steady one.
+    #[test]
+    fn sessions_that_lose_a_key_on_a_plain_flash_keep_it_on_a_steady_one() {
+        let cells = Cells { waver: true, program_first: false };
+        let lost = (0..40).filter(|&seed| life::<Keyboard<Standard>, Plain<1, 4, 4096>>(seed, 100, cells).is_err()).count();
+        assert!(lost > 25, "{lost}");
+        for seed in 0..40 {
+            life::<Keyboard<Standard>, Steady<1, 4, 4096>>(seed, 100, cells)
+                .unwrap_or_else(|broken| panic!("{seed}: {broken}"));
+        }
+    }
+
+    /// A mark that is torn, and an erase that is torn behind it, leave no other word: a bit that stayed set beside one that was
+    /// cleared would be one.
+    #[test]
+    fn a_torn_erase_of_a_played_chip_forges_no_mark() {
+        let (power, word) = (Power::default(), 0xDB7F_FFF9_1240_0003_u64);
+        power.on(u64::MAX);
+        power.set_faults(Some(1));
+        for seed in 0..20_000 {
+            let cells = Cells { waver: false, program_first: true };
+            let mut chip = Doubtful::erased(2, cells, Again::Any, power.clone(), seed);
+            assert!(
+                (0..25).all(|mark| chip.program_mark(0, mark, word.to_le_bytes()).is_err()) && chip.erase_marks(0).is_err()
+            );
+            let mut read = (0..25).map(|mark| u64::from_le_bytes(chip.read_mark(0, mark)));
+            assert!(read.all(|read| read == word || !is_word(read)), "{seed}");
+        }
+    }
+
     /// In the first life a claim that an earlier start began to clear is programmed again.
     #[test]
     fn short_lives_on_cells_that_waver_lose_nothing() {
         assert!(life::<Pages, SteadyFlash<Doubtful>>(85529, 12, WAVERING).is_ok());
-        assert!(matches!(of("lives", 2000), Ok(told) if told.contains("0 lost")));
+        assert!(matches!(lives_of("lives", 2000), Ok(told) if told.contains("0 lost")));
     }
 
     #[test]
@@ -115,7 +146,7 @@ mod tests {
         assert_eq!(asked_of(&["log", "7"]), (vec!["log".to_string()], 7));
         assert_eq!(asked_of(&["7"]).0.len(), 3);
         assert_eq!(asked_of(&[]).1, LOSSES);
-        assert!(of("locks", 1).is_err());
-        assert!(matches!(of("keyboard", 500), Ok(told) if told.contains("0 lost")));
+        assert!(lives_of("locks", 1).is_err());
+        assert!(matches!(lives_of("keyboard", 500), Ok(told) if told.contains("0 lost")));
     }
 }

@@ -53,11 +53,9 @@ struct State {
 }
 
 impl Power {
-    /// One of this many operations is torn though the power stays on, or none.
-    pub fn with_faults(one_in: Option<usize>) -> Power {
-        let power = Power::default();
-        power.0.one_fault_in.set(one_in.unwrap_or(0));
-        power
+    /// From here on one of this many operations is torn though the power stays on, or none.
+    pub fn set_faults(&self, one_in: Option<usize>) {
+        self.0.one_fault_in.set(one_in.unwrap_or(0));
     }
 
     /// Switches the power on; it is cut inside the operation that comes after `whole` others.

@@ -5,7 +5,7 @@
 pub struct Random(u64);
 
 impl Random {
-    pub fn of(seed: u64) -> Random {
+    pub fn from_seed(seed: u64) -> Random {
         Random(seed)
     }
 

@@ -84,24 +84,50 @@ pub struct Stage {
     pub tally: Tally,
 }
 
+impl Stage {
+    /// Switches the power on, until some number of operations below one of these.
+    fn power_on(&mut self, soon: [usize; 4]) {
+        let bound = soon[self.random.below(4)];
+        self.power.on(self.random.below(bound) as u64);
+    }
+}
+
+/// Whether a start may be refused for ever, behind so many in a row that were cut.
+fn ends(why: MountError, cut_starts: u32, faults: u64) -> bool {
+    match why {
+        MountError::OutOfMarks => faults > 0 || cut_starts >= 4,
+        MountError::Fault => faults > 0,
+        _ => false,
+    }
+}
+
 /// A life with `cuts` losses of power, and a start behind the last one; or what it finds broken.
 pub fn life<S: Subject, A: Adapter>(seed: u64, cuts: u64, cells: Cells) -> Result<Tally, Broken> {
-    let mut random = Random::of(seed);
-    let power = Power::with_faults(A::FAULTS[random.below(3)]);
+    let mut random = Random::from_seed(seed);
+    let (power, faults) = (Power::default(), A::FAULTS[random.below(3)]);
     let pages = 2 + random.below(7);
     let mut chip = A::blank(pages, cells, power.clone(), random.next());
     let mut subject = S::new(&mut random);
     let mut stage = Stage { random, power, tally: Tally::default() };
+    if stage.random.below(2) == 0 {
+        stage.power_on(A::SOON);
+        chip = A::after_plain(chip, pages, &mut subject, &mut stage)?;
+    }
+    stage.power.set_faults(faults);
+    let mut in_a_row = 0;
     for _ in 0..=cuts {
-        let bound = A::SOON[stage.random.below(4)];
-        stage.power.on(stage.random.below(bound) as u64);
+        stage.power_on(A::SOON);
         chip = match A::start(chip, pages) {
-            Ok(flash) => subject.session(flash, &mut stage)?.stop(),
+            Ok(flash) => {
+                in_a_row = 0;
+                subject.session(flash, &mut stage)?.stop()
+            }
             Err((cut, _)) if stage.power.is_off() => {
+                in_a_row += 1;
                 stage.tally.cut_starts += 1;
                 cut
             }
-            Err((_, MountError::OutOfMarks | MountError::Fault)) => {
+            Err((_, why)) if ends(why, in_a_row, stage.power.faults()) => {
                 stage.tally.ended += 1;
                 break;
             }

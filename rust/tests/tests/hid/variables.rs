@@ -1,5 +1,5 @@
 //! Reports that are written onto Variable fields: `KIND ID ONTO : SETTING .. = REPORT`, or the refusal. A setting is `USAGE@PLACE=VALUE` or
-//! `#FIELD.PLACE=VALUE`, a value is `n` for none, and `new` stands for no report.
+//! `#FIELD.PLACE=VALUE`, a value is `n` for none, and `new` means that no report is given.
 
 use crate::writing::check;
 

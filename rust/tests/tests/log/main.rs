@@ -6,5 +6,6 @@ mod images;
 mod mounted;
 mod paired;
 mod rows;
+mod steady;
 mod steps;
 mod torn;

@@ -1,9 +1,9 @@
 //! The check of a flash whose pages have marks.
 
 use super::{BLANK, Check, DriverFault, Place, word};
-use crate::marked_flash::MarkedFlash;
 use crate::page_count::PageCount;
 use crate::parts::flash_model::{FlashFault, NorFlash, PAGE_SLOTS, SLOT_BYTES};
+use crate::parts::steady_flash::MarkedFlash;
 
 /// How often each mark is programmed again: so often a start may, behind power losses.
 const AGAIN: usize = 8;

@@ -34,7 +34,7 @@ fn read(flash: &SimFlash) -> Model {
     all
 }
 
-fn after(model: &Model, changes: &[Change]) -> Model {
+fn changed(model: &Model, changes: &[Change]) -> Model {
     let mut model = model.clone();
     for change in changes {
         match &change.value {
@@ -63,7 +63,7 @@ fn stepped(flash: &SimFlash, changes: &[Change], steps: usize) -> (FlashSettings
 
 /// Makes the changes, and tears each operation of theirs, or some of many, by several masks.
 fn with_cuts(flash: &SimFlash, model: &Model, changes: &[Change], random: &mut Random) -> (SimFlash, Model, usize) {
-    let new = after(model, changes);
+    let new = changed(model, changes);
     let steps = (1..).find(|&steps| stepped(flash, changes, steps).1 == Work::Stored).expect("it ends");
     assert!(steps <= 514);
     let cuts: Vec<usize> = if steps < 8 {

@@ -1,6 +1,11 @@
 //! What starts and calls do, also where the power is lost inside them; and what is refused.
 
-use super::*;
+use crate::mend_pages;
+use crate::parts::flash_model::{FlashFault, PAGE_SLOTS, SLOT_BYTES};
+use crate::parts::steady_flash::marks::{BLANK, LAST_NUMBER, OPEN, Place, ZEROS, about, claim, claim_bytes, done};
+use crate::parts::steady_flash::moving::LAST_WRITTEN;
+use crate::parts::steady_flash::steady::NO_SLOT;
+use crate::parts::steady_flash::{MarkedFlash, MountError, SteadyFlash, Unmounted};
 use std::cell::Cell;
 use std::vec;
 use std::vec::Vec;
@@ -147,10 +152,28 @@ fn why(mounted: Result<SteadyFlash<Pages>, Unmounted<Pages>>) -> (MountError, u6
 #[test]
 fn what_is_no_steady_flash_is_named_and_left_as_it_is() {
     assert_eq!(why(SteadyFlash::mount(Pages::blank())), (MountError::Unformatted, 0));
-    // The words of a log are no marks.
+    // The words of a log are no marks, whatever their bytes.
     let mut other = Pages::blank();
     other.marks = (0..75).map(word).collect();
+    other.slots[..256]
+        .iter_mut()
+        .zip(0..=255)
+        .for_each(|(slot, byte)| *slot = [byte, byte, byte, byte, !byte, !byte, !byte, !byte]);
     assert_eq!(why(SteadyFlash::mount(other)), (MountError::Unformatted, 0));
+    // A mark of another place, or of a log of other pages, wherever it stands.
+    let claims = [(2, 1), (3, 0), (7, 2)].map(|(pages, at)| claim_bytes(Place { pages, at }, 1, 5));
+    for (bytes, at) in claims.into_iter().flat_map(|bytes| [0, claim(0), done(3), 24].map(|at| (bytes, at))) {
+        let mut moved = Pages::blank();
+        moved.marks[at] = bytes;
+        assert_eq!(why(SteadyFlash::take_over(moved)), (MountError::OtherGeometry, 0));
+        let mut moved = Pages::blank();
+        moved.slots[2 * PAGE_SLOTS + at] = bytes;
+        assert_eq!(why(SteadyFlash::take_over(moved.clone())), (MountError::OtherGeometry, 0));
+        assert!(SteadyFlash::format(moved).is_ok());
+    }
+    let mut moved = formatted().into_flash().with_power(u64::MAX);
+    moved.marks[2 * 25 + claim(7)] = claims[1];
+    assert_eq!(why(SteadyFlash::mount(moved)), (MountError::OtherGeometry, 0));
     let mut small = Pages::blank();
     small.slots.truncate(2 * PAGE_SLOTS);
     assert_eq!(why(SteadyFlash::mount(small.clone())), (MountError::PageCount, 0));
@@ -166,8 +189,8 @@ fn what_is_no_steady_flash_is_named_and_left_as_it_is() {
 
 #[test]
 fn a_read_that_fails_is_no_blank_flash() {
-    // 24 claims are read, and then 24 others that would tell a damaged flash.
-    for readable in 0..48 {
+    // 24 claims are read, and then all marks, which would tell a damaged flash.
+    for readable in 0..99 {
         let flash = Pages { readable: Cell::new(readable), ..Pages::blank() };
         assert_eq!(why(SteadyFlash::take_over(flash)), (MountError::Unreadable, 0), "{readable}");
     }
@@ -216,9 +239,15 @@ fn each_operation_of_a_call_may_be_cut() {
     let mut before = formatted();
     before.program_slot(0, 0, word(1)).expect("programmed");
     before.program_slot(1, 1, word(2)).expect("programmed");
+    // Unsound: a bit is clear in both halves.
+    before.program_slot(1, 0, [1, 0, 0, 0, 0xFC, 255, 255, 255]).expect("programmed");
     let old = image(&before);
-    let calls: [Call; 3] =
-        [|flash| flash.program_slot(0, 9, word(5)), |flash| flash.program_slot(1, 1, [0; 8]), |flash| flash.erase_page(0)];
+    let calls: [Call; 4] = [
+        |flash| flash.program_slot(0, 9, word(5)),
+        |flash| flash.program_slot(1, 1, [0; 8]),
+        |flash| flash.erase_page(0),
+        |flash| mend_pages(flash).map(|mended| assert_eq!(mended, 1)),
+    ];
     for call in calls {
         let mut whole = SteadyFlash::mount(before.flash().clone()).expect("mounted");
         call(&mut whole).expect("done");
@@ -340,9 +369,30 @@ fn a_start_says_why_it_can_not_go_on() {
     }
     assert_eq!(why(SteadyFlash::mount(flash.with_power(u64::MAX))), (MountError::OutOfMarks, 0));
     let mut flash = formatted().into_flash();
-    flash.marks[claim(0)] = claim_bytes(0, LAST_NUMBER);
-    let mut steady = SteadyFlash::mount(flash).expect("mounted");
-    assert_eq!((steady.erase_page(0), steady.is_lost()), (Err(FlashFault), false));
+    flash.marks[claim(0)] = claim_bytes(Place { pages: 2, at: 0 }, 0, LAST_NUMBER);
+    flash.marks[OPEN] = ZEROS;
+    assert_eq!(why(SteadyFlash::mount(flash)).0, MountError::Worn);
+}
+
+#[test]
+fn the_last_numbers_are_left_to_starts() {
+    let with_number = |number| {
+        let mut flash = formatted().into_flash();
+        flash.marks[claim(0)] = claim_bytes(Place { pages: 2, at: 0 }, 0, number);
+        SteadyFlash::mount(flash.with_power(u64::MAX)).expect("mounted")
+    };
+    let mut steady = with_number(LAST_WRITTEN);
     assert_eq!(steady.program_slot(0, 1, word(1)), Ok(()));
-    assert_eq!(why(SteadyFlash::mount(steady.into_flash())).0, MountError::Worn);
+    let mut steady = SteadyFlash::mount(steady.into_flash().with_power(u64::MAX)).expect("mounted");
+    // Behind it nothing is written on this page, and each start reads alone.
+    assert_eq!(
+        (steady.program_slot(0, 2, word(1)), steady.erase_page(0), steady.is_lost()),
+        (Err(FlashFault), Err(FlashFault), false)
+    );
+    assert_eq!((steady.flash().operations, steady.read_slot(0, 1)), (6, word(1)));
+    assert_eq!(why(SteadyFlash::format(steady.into_flash().with_power(u64::MAX))), (MountError::Worn, 0));
+    let mut steady = with_number(LAST_WRITTEN);
+    assert_eq!(steady.erase_page(0), Ok(()));
+    let mut steady = SteadyFlash::mount(steady.into_flash()).expect("mounted");
+    assert_eq!((steady.program_slot(0, 1, word(1)), steady.program_slot(1, 1, word(1))), (Err(FlashFault), Ok(())));
 }

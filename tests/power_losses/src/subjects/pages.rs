@@ -1,7 +1,7 @@
 // SPDX-License-Identifier: MIT OR Apache-2.0
 //! The pages of a flash themselves: slots that are programmed, some twice, and pages that are erased, as `NorFlash` says.
 
-use wuzhikar_log::NorFlash;
+use wuzhikar_log::{NorFlash, mend_pages};
 
 use super::Subject;
 use crate::random::Random;
@@ -16,11 +16,28 @@ type Image = Vec<[u64; SLOTS.len()]>;
 #[derive(Clone, Copy, Debug)]
 enum Change {
     Nothing,
-    Program { page: usize, at: usize, word: u64 },
-    Erase { page: usize },
+    Program {
+        page: usize,
+        at: usize,
+        word: u64,
+    },
+    Erase {
+        page: usize,
+    },
+    /// Pages whose first slot is unsound are erased.
+    Mend,
 }
 
 impl Change {
+    /// What it does to a page whose first slot holds this.
+    fn on(self, page: usize, first: u64) -> Change {
+        match self {
+            Change::Mend if (first | first >> 32) as u32 == u32::MAX => Change::Nothing,
+            Change::Mend => Change::Erase { page },
+            change => change,
+        }
+    }
+
     /// What a slot may hold behind the change, where it was torn.
     fn allows(self, page: usize, at: usize, before: u64, now: u64) -> bool {
         match self {
@@ -37,6 +54,7 @@ impl Change {
             Change::Nothing => true,
             Change::Program { page, at, word } => flash.program_slot(page, SLOTS[at], word.to_le_bytes()).is_ok(),
             Change::Erase { page } => flash.erase_page(page).is_ok(),
+            Change::Mend => mend_pages(flash).is_ok(),
         }
     }
 }
@@ -59,6 +77,7 @@ impl Pages {
             self.image = vec![[u64::MAX; SLOTS.len()]; found.len()];
         }
         for (page, (slots, before)) in found.iter().zip(&self.image).enumerate() {
+            let change = change.on(page, before[0]);
             for (at, (&now, &before)) in slots.iter().zip(before).enumerate() {
                 if !change.allows(page, at, before, now) {
                     return Err(Broken::Lost(format!("page {page}, slot {at}: {before:x} became {now:x} by {change:?}")));
@@ -76,6 +95,7 @@ impl Pages {
         match random.below(16) {
             0..5 => Change::Erase { page },
             5 => Change::Program { page, at, word },
+            6 => Change::Mend,
             _ if self.image[page][at] == u64::MAX => Change::Program { page, at, word },
             _ => Change::Nothing,
         }
@@ -103,10 +123,12 @@ impl Subject for Pages {
                 self.under_way = change;
             } else if is_made {
                 stage.tally.stored += 1;
-                match change {
-                    Change::Nothing => {}
-                    Change::Program { page, at, word } => self.image[page][at] &= word,
-                    Change::Erase { page } => self.image[page] = [u64::MAX; SLOTS.len()],
+                for (page, slots) in self.image.iter_mut().enumerate() {
+                    match change.on(page, slots[0]) {
+                        Change::Program { page: of, at, word } if of == page => slots[at] &= word,
+                        Change::Erase { page: of } if of == page => *slots = [u64::MAX; SLOTS.len()],
+                        _ => {}
+                    }
                 }
             } else if stage.power.faults() > faults {
                 stage.tally.failed += 1;

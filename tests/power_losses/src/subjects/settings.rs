@@ -81,7 +81,7 @@ impl<D: Door> Settings<D> {
     /// The settings after a start: what was stored, or that with all changes that were under way.
     fn starts<F: NorFlash>(&mut self, settings: &mut D::On<F>) -> Result<(), Broken> {
         let read = settings.all();
-        let changed = after(&self.stored, &self.under_way);
+        let changed = changed(&self.stored, &self.under_way);
         self.under_way.clear();
         if read != self.stored && read != changed {
             return Err(Broken::Lost(format!("{read:?}, and {:?} was stored", self.stored)));
@@ -115,7 +115,7 @@ impl<D: Door> Settings<D> {
         match answer {
             Ok(()) => {
                 stage.tally.stored += 1;
-                self.stored = after(&self.stored, &changes);
+                self.stored = changed(&self.stored, &changes);
             }
             Err(SettingsError::Fault) if stage.power.faults() > faults => stage.tally.failed += 1,
             Err(error) => return Err(Broken::Refused(error.to_string())),
@@ -125,8 +125,8 @@ impl<D: Door> Settings<D> {
     }
 }
 
-/// What ids have after some changes more.
-fn after(values: &Values, changes: &[Change]) -> Values {
+/// Returns the values of all ids after these changes.
+fn changed(values: &Values, changes: &[Change]) -> Values {
     let mut values = values.clone();
     for change in changes {
         match &change.value {

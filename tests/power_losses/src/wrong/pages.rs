@@ -33,7 +33,7 @@ impl<const HOW: u8, const WRITE: usize, const ERASE: usize> Wrong<HOW, WRITE, ER
     const WHOLE: usize = (PAGE_SLOTS * Self::SLOT).next_multiple_of(ERASE);
     const PAGE: usize = if HOW == PAGES_SHARE_AN_ERASE_UNIT { PAGE_SLOTS * Self::SLOT } else { Self::WHOLE };
 
-    fn at(page: usize, slot: usize) -> usize {
+    fn offset(page: usize, slot: usize) -> usize {
         page * Self::PAGE + slot * Self::SLOT
     }
 }
@@ -61,7 +61,7 @@ impl<const HOW: u8, const WRITE: usize, const ERASE: usize> NorFlash for Wrong<H
 
     fn read_slot(&self, page: usize, slot: usize) -> [u8; SLOT_BYTES] {
         let mut bytes = [0; SLOT_BYTES];
-        self.chip.borrow_mut().read(Self::at(page, slot) as u32, &mut bytes).expect("a read");
+        self.chip.borrow_mut().read(Self::offset(page, slot) as u32, &mut bytes).expect("a read");
         bytes
     }
 
@@ -70,7 +70,7 @@ impl<const HOW: u8, const WRITE: usize, const ERASE: usize> NorFlash for Wrong<H
         if HOW == A_WRITE_IS_LEFT_OUT && self.writes % 100 == 0 {
             return Ok(());
         }
-        let at = Self::at(page, slot);
+        let at = Self::offset(page, slot);
         let unit = at - at % WRITE;
         let mut filled = vec![0xFF; SLOT_BYTES.max(WRITE)];
         filled[at - unit..][..SLOT_BYTES].copy_from_slice(&bytes);
@@ -81,7 +81,7 @@ impl<const HOW: u8, const WRITE: usize, const ERASE: usize> NorFlash for Wrong<H
     }
 
     fn erase_page(&mut self, page: usize) -> Result<(), FlashFault> {
-        let at = Self::at(page, 0);
+        let at = Self::offset(page, 0);
         let from = match HOW {
             PAGES_SHARE_AN_ERASE_UNIT => at - at % ERASE,
             THE_PAGE_BEFORE_IS_ERASED_TOO if page > 0 => at - Self::PAGE,

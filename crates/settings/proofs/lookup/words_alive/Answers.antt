@@ -17,7 +17,7 @@ loop-from-preserved g c =
     let k : length (copies_below values c.loop-from.from ++ words_of c.in-Some.change) ≡ length (copies_below values c.loop-from.from) + length (words_of c.in-Some.change) = length-append (copies_below values c.loop-from.from) (words_of c.in-Some.change) in
     let s : c.loop-from.sum ≡ length (copies_below values c.loop-from.from) = c.loop-from.invariant.1 in (
       omega (arith, i, n.small),
-      rw (i, copies_next values c.loop-from.from c.in-Some.change n, k, s, c.size-sum.ensures.words) refl,
+      rw (i, copies_next values c.loop-from.from c.in-Some.change n, k, s, c.size.ensures.words) refl,
     )
 
 pub returns-in-None-clause-exact : goal.returns-in-None-clause-exact
@@ -25,8 +25,8 @@ returns-in-None-clause-exact g c few =
     let values = changed (g.F.NorFlash.image c.args.flash.now) c.args.changes.now in
     c.loop-from.invariant.1 ∙ sym (ap (λ (ws : List ℕ). length ws) (copies_gap values c.loop-from.from (2 ^ 16) c.loop-from.invariant.0 c.in-None.ensures))
 
-pub returns-else-sum-le-PAGE_WORDS-clause-beyond : goal.returns-else-sum-le-PAGE_WORDS-clause-beyond
-returns-else-sum-le-PAGE_WORDS-clause-beyond g c many =
+pub returns-else-sum-clause-beyond : goal.returns-else-sum-clause-beyond
+returns-else-sum-clause-beyond g c many =
     let values = changed (g.F.NorFlash.image c.args.flash.now) c.args.changes.now in
     let grown = copies_grow values c.loop-from.from (2 ^ 16) c.loop-from.invariant.0 in
     omega (arith, many, c.loop-from.invariant.1, grown)

@@ -86,8 +86,9 @@ impl<F: EccFlash> NorFlash for PairedFlash<F> {
     }
 
     fn read_slot(&self, page: usize, slot: usize) -> [u8; SLOT_BYTES] {
-        let first = self.flash.read_unit(page, 2 * slot);
-        let second = self.flash.read_unit(page, 2 * slot + 1);
+        let unit = 2 * slot as u16;
+        let first = self.flash.read_unit(page, unit as usize);
+        let second = self.flash.read_unit(page, (unit + 1) as usize);
         read(first, second)
     }
 
@@ -124,8 +125,9 @@ fn program<F: EccFlash>(
     slot: usize,
     bytes: [u8; SLOT_BYTES],
 ) -> Result<(), FlashFault> {
-    let first = 2 * slot;
-    let second = first + 1;
+    let unit = 2 * slot as u16;
+    let first = unit as usize;
+    let second = (unit + 1) as usize;
     if !is_log_word(bytes) || !is_free(flash, page, first) || !is_free(flash, page, second) {
         return Err(FlashFault);
     }

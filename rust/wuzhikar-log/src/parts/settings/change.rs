@@ -43,8 +43,8 @@ impl Value {
     }
 
     /// How many bytes there are.
-    pub(crate) fn len(&self) -> usize {
-        self.len as usize
+    pub(crate) fn len(&self) -> u8 {
+        self.len
     }
 
     /// The same value again.

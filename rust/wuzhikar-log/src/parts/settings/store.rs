@@ -46,10 +46,10 @@ pub enum Job {
     /// Nothing.
     Resting,
     /// The words of one change, of which so many are there.
-    Appending(usize),
+    Appending(u8),
     /// A compaction to a page with all values: it was given the words of the ids below `from`, and `at` of
     /// those of `from`.
-    Turning { from: u32, at: usize },
+    Turning { from: u32, at: u8 },
 }
 
 /// Settings in flash.
@@ -98,7 +98,7 @@ impl Settings {
 
     /// How many words of the 511 of a page no value takes.
     pub(crate) fn room_left<F: NorFlash>(&self, flash: &F) -> usize {
-        let alive = words_alive(&self.log, flash, &[]);
+        let alive = words_alive(&self.log, flash, &[]) as usize;
         if alive < PAGE_WORDS {
             PAGE_WORDS - alive
         } else {
@@ -164,7 +164,7 @@ impl Settings {
             self.job = Job::Appending(0);
             return Ok(());
         }
-        if words_alive(&self.log, flash, changes) > PAGE_WORDS {
+        if words_alive(&self.log, flash, changes) > PAGE_WORDS as u16 {
             return Err(SettingsError::Full);
         }
         match self.log.begin_turn() {
@@ -224,7 +224,7 @@ impl Settings {
     }
 
     /// Appends the next word of the change.
-    fn append<F: NorFlash>(&mut self, flash: &mut F, changes: &[Change], at: usize) -> Work {
+    fn append<F: NorFlash>(&mut self, flash: &mut F, changes: &[Change], at: u8) -> Work {
         let [change] = changes else { unreachable!() };
         self.log.begin_append(word_at(change, at));
         match self.log.step(flash) {
@@ -238,7 +238,7 @@ impl Settings {
     }
 
     /// One word more of the change is there, and with the last one the change is in force.
-    fn count(&mut self, change: &Change, at: usize) -> Work {
+    fn count(&mut self, change: &Change, at: u8) -> Work {
         let words = size(change);
         if at + 1 < words {
             self.job = Job::Appending(at + 1);
@@ -250,7 +250,7 @@ impl Settings {
     }
 
     /// Goes on with a compaction.
-    fn turn<F: NorFlash>(&mut self, flash: &mut F, changes: &[Change], from: u32, at: usize) -> Work {
+    fn turn<F: NorFlash>(&mut self, flash: &mut F, changes: &[Change], from: u32, at: u8) -> Work {
         self.offer_next(flash, changes, from, at);
         match self.log.step(flash) {
             Step::Moved => Work::Working,
@@ -267,7 +267,7 @@ impl Settings {
     }
 
     /// Offers a waiting compaction its next word, or its header after the last one.
-    fn offer_next<F: NorFlash>(&mut self, flash: &F, changes: &[Change], from: u32, at: usize) {
+    fn offer_next<F: NorFlash>(&mut self, flash: &F, changes: &[Change], from: u32, at: u8) {
         if !self.log.wants() {
             return;
         }
@@ -282,7 +282,7 @@ impl Settings {
 }
 
 /// A compaction that was given the words of a change up to this one.
-fn behind(change: &Change, at: usize) -> Job {
+fn behind(change: &Change, at: u8) -> Job {
     let id = u32::from(change.id);
     let words = size(change);
     if at + 1 < words {
@@ -307,12 +307,12 @@ fn has_room(log: &Log, changes: &[Change]) -> bool {
 }
 
 /// Whether there is room for so many words.
-fn has_room_for(log: &Log, words: usize) -> bool {
+fn has_room_for(log: &Log, words: u8) -> bool {
     if !log.room() {
         return false;
     }
     match log.tail() {
-        Some(tail) => tail <= PAGE_WORDS + 1 - words,
+        Some(tail) => tail <= PAGE_WORDS + 1 - words as usize,
         None => false,
     }
 }

@@ -62,7 +62,7 @@ pub fn is_known(word: u32) -> bool {
 }
 
 /// How many words a change has, 1 to 23.
-pub fn size(change: &Change) -> usize {
+pub fn size(change: &Change) -> u8 {
     match &change.value {
         Some(value) => 1 + (value.len() + 2) / 3,
         None => 1,
@@ -70,7 +70,7 @@ pub fn size(change: &Change) -> usize {
 }
 
 /// A word of a change, from 0 on.
-pub fn word_at(change: &Change, at: usize) -> u32 {
+pub fn word_at(change: &Change, at: u8) -> u32 {
     match &change.value {
         None => REMOVAL + u32::from(change.id),
         Some(value) => value_word_at(change.id, value, at),
@@ -78,7 +78,7 @@ pub fn word_at(change: &Change, at: usize) -> u32 {
 }
 
 /// A word of an id and its value.
-fn value_word_at(id: u16, value: &Value, at: usize) -> u32 {
+fn value_word_at(id: u16, value: &Value, at: u8) -> u32 {
     let len = value.len();
     if at == 0 {
         VALUE + len as u32 * TWO_BYTES + u32::from(id)
@@ -88,10 +88,10 @@ fn value_word_at(id: u16, value: &Value, at: usize) -> u32 {
 }
 
 /// The word of three bytes from one on; what is missing is zeros.
-fn data_word(bytes: &[u8], at: usize) -> u32 {
-    let a = byte_at(bytes, at);
-    let b = byte_at(bytes, at + 1);
-    let c = byte_at(bytes, at + 2);
+fn data_word(bytes: &[u8], at: u8) -> u32 {
+    let a = byte_at(bytes, at as usize);
+    let b = byte_at(bytes, (at + 1) as usize);
+    let c = byte_at(bytes, (at + 2) as usize);
     DATA + c * TWO_BYTES + b * BYTE + a
 }
 

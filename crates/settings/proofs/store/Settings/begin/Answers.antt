@@ -17,8 +17,8 @@ pub returns-in-Ok-clause-refines : goal.returns-in-Ok-clause-refines
 returns-in-Ok-clause-refines g c =
     let image = g.F.NorFlash.image c.args.flash.now in
     let d = rw (← c.self.view_is) at c.rest.ensures.describes in
-    let exact = c.words_alive.ensures.exact c.if-words_alive-gt-PAGE_WORDS.false in
-    let few : alive image c.args.changes.now ≤ 511 = omega (arith, exact, c.if-words_alive-gt-PAGE_WORDS.false) in
+    let exact = c.words_alive.ensures.exact c.if-words_alive.false in
+    let few : alive image c.args.changes.now ≤ 511 = omega (arith, exact, c.if-words_alive.false) in
     refines_turning image c.args.changes.now c.self.inside.log c.begin_turn.new.self (c.begin_turn.ensures.describes image d) c.in-Ok.ensures.begun.1 c.are_changes.ensures few
 
 pub returns-in-Ok-clause-needs : goal.returns-in-Ok-clause-needs

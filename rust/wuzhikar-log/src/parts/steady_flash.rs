@@ -1,6 +1,21 @@
-//! A flash whose pages have marks beside their slots. Written by hand.
+// Exported from crates/steady_flash/src/lib.rt by bin/export-rust. Edit that file instead.
+//! Flash whose torn cells waver as `NorFlash`: pages that move to a spare one.
+//!
+//! `MarkedFlash` is the flash, and `SteadyFlash` the adapter. A cell that an operation was torn at may
+//! read as set now and as clear later, and an erase may program to 0 before it sets. So a start copies
+//! each page that was written to a spare page, as it reads then, and marks say which page counts.
 
-use crate::parts::flash_model::{FlashFault, SLOT_BYTES};
+pub mod errors;
+pub mod layout;
+pub mod making;
+pub mod marks;
+pub mod moving;
+pub mod starting;
+pub mod steady;
+
+pub use errors::{MountError, Unmounted};
+use crate::parts::flash_model::{FlashFault, PAGE_SLOTS, SLOT_BYTES};
+pub use steady::SteadyFlash;
 
 /// A NOR flash of 3 to 9 pages, each with 512 slots and, in erase units of their own, marks of eight bytes: one, and three for each
 /// of its triples. [`SteadyFlash`](crate::SteadyFlash) makes the flash of a log from it, with one page less.
@@ -28,10 +43,20 @@ pub trait MarkedFlash {
     fn read_mark(&self, page: usize, mark: usize) -> [u8; SLOT_BYTES];
 
     /// Clears the bits of a slot that are clear in `bytes`. `FlashFault`: the program was torn.
-    fn program_slot(&mut self, page: usize, slot: usize, bytes: [u8; SLOT_BYTES]) -> Result<(), FlashFault>;
+    fn program_slot(
+        &mut self,
+        page: usize,
+        slot: usize,
+        bytes: [u8; SLOT_BYTES],
+    ) -> Result<(), FlashFault>;
 
     /// Clears the bits of a mark that are clear in `bytes`. `FlashFault`: the program was torn.
-    fn program_mark(&mut self, page: usize, mark: usize, bytes: [u8; SLOT_BYTES]) -> Result<(), FlashFault>;
+    fn program_mark(
+        &mut self,
+        page: usize,
+        mark: usize,
+        bytes: [u8; SLOT_BYTES],
+    ) -> Result<(), FlashFault>;
 
     /// Sets every bit of the slots of page `page`, and leaves its marks. `FlashFault`: the erase was torn.
     fn erase_slots(&mut self, page: usize) -> Result<(), FlashFault>;

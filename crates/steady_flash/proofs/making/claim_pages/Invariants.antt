@@ -1,0 +1,5 @@
+use Rattle.std.proofs.Common.{◌≡◌}
+use Rattle.steady_flash.proofs.making.claim_pages.Given as goal
+
+abbrev pub invariant-loop-page : goal.invariant-loop-page
+invariant-loop-page g l = g.F.MarkedFlash.size l.flash ≡ g.F.MarkedFlash.size l.fn.flash

@@ -1,0 +1,5 @@
+use Rattle.std.proofs.Common.{◌≡◌}
+use Rattle.steady_flash.proofs.making.clear_claims.Given as goal
+
+abbrev pub invariant-loop-index : goal.invariant-loop-index
+invariant-loop-index g l = g.F.MarkedFlash.size l.flash ≡ g.F.MarkedFlash.size l.fn.flash

@@ -1,0 +1,10 @@
+use Rattle.std.proofs.Common.{◌≡◌}
+use Rattle.steady_flash.specs.Layout.{IsLaidOut}
+use Rattle.steady_flash.proofs.making.erase_each.Given as goal
+
+abbrev pub invariant-loop-page : goal.invariant-loop-page
+invariant-loop-page g l = record {
+  same_size : g.F.MarkedFlash.size l.flash ≡ g.F.MarkedFlash.size l.fn.flash;
+  laid_out : IsLaidOut (g.F.MarkedFlash.size l.fn.flash) l.layout;
+  same_pages : l.layout.pages ≡ l.fn.layout.pages;
+}

@@ -1,0 +1,9 @@
+use Rattle.std.proofs.Common.{◌≡◌}
+use Rattle.steady_flash.specs.Marked.{OnePageOfPlaces}
+use Rattle.steady_flash.proofs.moving.erase_slots.Given as goal
+
+abbrev pub invariant-loop : goal.invariant-loop
+invariant-loop g l = record {
+  same_size : g.F.MarkedFlash.size l.flash ≡ g.F.MarkedFlash.size l.fn.flash;
+  others : OnePageOfPlaces (g.F.MarkedFlash.slots l.fn.flash) l.at (g.F.MarkedFlash.slots l.flash);
+}

@@ -1,0 +1,5 @@
+pub mod Cells
+pub mod Marked
+pub mod Layout
+pub mod Moves
+pub mod Shown

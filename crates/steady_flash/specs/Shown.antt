@@ -1,0 +1,56 @@
+-- Trusted: what is shown of a log's pages.
+use Rattle.shapes.specs.Shapes.{Bytes}
+use Rattle.std.specs.Prelude.{◌≡◌, ℕ, ◌*◌, ◌/◌, ◌%◌, ◌<◌, map, slice_index}
+use Rattle.std.specs.List.{range_with_len}
+use Rattle.flash_model.specs.Torn.{ProgramMayLeave}
+use Rattle.flash_model.specs.declared.TheConstants.{PAGE_SLOTS}
+use Rattle.steady_flash.specs.Cells.{Written, blank}
+use Rattle.steady_flash.specs.Layout.{held_at}
+use Rattle.steady_flash.specs.Moves.{Holds}
+use Rattle.steady_flash.specs.declared.layout.Layout.{Layout}
+
+-- a slot of the log: what the cells of its place hold
+abbrev pub shown : (ℕ → ℕ → Written) → Layout → ℕ → ℕ → Bytes
+shown slots layout page slot = (slots (held_at layout.held page).page slot).cells.least
+
+-- no slot of the log has a cell in doubt
+abbrev pub IsSettled : (ℕ → ℕ → Written) → Layout → Type 0
+IsSettled slots layout = (p s : ℕ) → p < layout.pages → s < PAGE_SLOTS → Holds (slots (held_at layout.held p).page s) (shown slots layout p s)
+
+-- the bytes of the pages, one page after the other
+unfoldable pub bytes_of : (ℕ → ℕ → Bytes) → ℕ → Bytes
+bytes_of slot pages = map (λ j. slice_index (slot (j / 4096) (j % 4096 / 8)) (j % 8)) (range_with_len 0 (4096 * pages))
+
+-- the image of the log's flash
+abbrev pub image_of : (ℕ → ℕ → Written) → Layout → Bytes
+image_of slots layout = bytes_of (shown slots layout) layout.pages
+
+-- each slot of the log is as it was
+pub record IsKept (old : ℕ → ℕ → Written) (layout : Layout) (new : ℕ → ℕ → Written) (after : Layout) : Type 0 where
+  pub settled : IsSettled new after
+  pub pages : after.pages ≡ layout.pages
+  pub same : (p s : ℕ) → p < layout.pages → s < PAGE_SLOTS → shown new after p s ≡ shown old layout p s
+
+-- one slot of the log has become these bytes
+pub record IsChanged (old : ℕ → ℕ → Written) (layout : Layout) (page slot : ℕ) (bytes : Bytes) (new : ℕ → ℕ → Written) (after : Layout) : Type 0 where
+  pub settled : IsSettled new after
+  pub pages : after.pages ≡ layout.pages
+  pub there : shown new after page slot ≡ bytes
+  pub others : (p s : ℕ) → p < layout.pages → s < PAGE_SLOTS → (p ≡ page → s ≡ slot → ⊥) → shown new after p s ≡ shown old layout p s
+
+-- one page of the log is blank
+pub record IsBlanked (old : ℕ → ℕ → Written) (layout : Layout) (page : ℕ) (new : ℕ → ℕ → Written) (after : Layout) : Type 0 where
+  pub settled : IsSettled new after
+  pub pages : after.pages ≡ layout.pages
+  pub blank_there : (s : ℕ) → s < PAGE_SLOTS → shown new after page s ≡ blank
+  pub others : (p s : ℕ) → p < layout.pages → s < PAGE_SLOTS → (p ≡ page → ⊥) → shown new after p s ≡ shown old layout p s
+
+-- no slot of the log but this one has a cell in doubt
+abbrev pub IsSettledBut : (ℕ → ℕ → Written) → Layout → ℕ → ℕ → Type 0
+IsSettledBut slots layout page slot = (p s : ℕ) → p < layout.pages → s < PAGE_SLOTS → (p ≡ page → s ≡ slot → ⊥) → Holds (slots (held_at layout.held p).page s) (shown slots layout p s)
+
+-- bytes were torn into one slot of the log, which was blank
+pub record IsTornInto (old : ℕ → ℕ → Written) (layout : Layout) (page slot : ℕ) (bytes : Bytes) (new : ℕ → ℕ → Written) (after : Layout) : Type 0 where
+  pub now : Bytes
+  pub changed : IsChanged old layout page slot now new after
+  pub torn : ProgramMayLeave blank bytes now

@@ -1,0 +1,352 @@
+//! The adapter: a flash that reads the same each time.
+
+ghost use Rattle.std.specs.Prelude.{◌≡◌, true, ◌+◌, ◌<◌, ◌≤◌, ◌^◌, ℕ, ◌⊎◌, IfOk, IsTrue, MatchResult, slice_index, bit_and};
+ghost use Rattle.shapes.specs.Shapes.{Bytes};
+ghost use Rattle.flash_model.specs.Image.{slot_at};
+ghost use Rattle.flash_model.specs.Operations.{Programs, MayProgram, Erases, MayErase};
+ghost use Rattle.steady_flash.specs.Cells.{IsEight, blank};
+ghost use Rattle.steady_flash.specs.Marked.{Same};
+ghost use Rattle.steady_flash.specs.Layout.{held_at, IsLaidOut};
+ghost use Rattle.steady_flash.specs.Moves.{IsTorn};
+ghost use Rattle.steady_flash.specs.Shown.{shown, image_of, IsSettled, IsSettledBut, IsKept, IsChanged, IsTornInto};
+
+use crate::layout::Layout;
+use crate::making::{format, take_over};
+use crate::marks::{BLANK, OPEN, ZEROS};
+use crate::moving::{
+    Changed, LAST_WRITTEN, Stop, TRIES, erase_page, move_page, program_mark, program_slot,
+};
+use crate::starting::start;
+use crate::{MarkedFlash, MountError, Unmounted};
+use flash_model::{FlashFault, PAGE_SLOTS, SLOT_BYTES};
+
+/// What a slot reads as where there is none: neither free nor a word.
+pub const NO_SLOT: [u8; SLOT_BYTES] = [255, 255, 255, 127, 255, 255, 255, 255];
+
+/// A flash as [`NorFlash`](crate::NorFlash) that reads the same each time, over a [`MarkedFlash`] whose torn cells waver, and whose
+/// erase may program to 0 first.
+///
+/// A start finds each page as it was before the operation that a power loss came into, behind it, or torn as `NorFlash` says; from
+/// then on it reads the same each time. A start that is cut is made again. It is proved that no call panics, that each ends, and
+/// what a session reads and writes where no slot has a cell in doubt (clauses of the calls). That a start leaves none, and all over
+/// power losses, is **tested, not proved**, under these premises:
+///
+/// - The flash does what [`MarkedFlash`] asks, and nothing else writes there, a plain log neither.
+/// - The power is not lost inside as many starts in a row as half the triples of a page: at least 4, mostly 12. A start that ends
+///   begins the count anew.
+/// - No mark fails 8 times in a row, nor a page while it is made. Behind that [`MarkedFlash::give_up`] resets the chip, since nothing
+///   may be told of the operation. A start answers [`MountError::Fault`] then.
+///
+/// Pages of the log are virtual: an erase, and each start behind a session that wrote, move a page to a spare one. Such a start takes
+/// two erases and up to 516 programs for each page that was written, any other one reads alone. An erase takes two erases and three
+/// programs, the first program on a page since a start or an erase one more. A program of a slot that is not blank moves the page.
+///
+/// ```rust
+/// # fn main() -> Result<(), Box<dyn core::error::Error>> {
+/// use wuzhikar_log::{FlashLog, MarkedUnits, SteadyFlash};
+/// # use core::convert::Infallible;
+/// # #[derive(Debug)]
+/// # struct Driver(Vec<u8>);
+/// # impl wuzhikar_log::FlashDriver for Driver {
+/// #     type Error = Infallible;
+/// #     const READ_SIZE: usize = 1;
+/// #     const WRITE_SIZE: usize = 4;
+/// #     const ERASE_SIZE: usize = 4096;
+/// #     fn capacity(&self) -> usize { self.0.len() }
+/// #     fn read(&mut self, offset: u32, bytes: &mut [u8]) -> Result<(), Infallible> {
+/// #         bytes.copy_from_slice(&self.0[offset as usize..][..bytes.len()]);
+/// #         Ok(())
+/// #     }
+/// #     fn write(&mut self, offset: u32, bytes: &[u8]) -> Result<(), Infallible> {
+/// #         self.0[offset as usize..].iter_mut().zip(bytes).for_each(|(cell, byte)| *cell &= byte);
+/// #         Ok(())
+/// #     }
+/// #     fn erase(&mut self, from: u32, to: u32) -> Result<(), Infallible> {
+/// #         self.0[from as usize..to as usize].fill(0xFF);
+/// #         Ok(())
+/// #     }
+/// # }
+/// # let driver = Driver(vec![0xFF; 24576]);
+///
+/// // Two pages from byte 0 on, here of a driver with erase units of 4,096 bytes. What a plain log has there is taken over.
+/// let mut log = FlashLog::mount(SteadyFlash::take_over(MarkedUnits::new(driver, 0, 2)?)?)?;
+/// log.rewrite([5, 6])?;
+/// log.push(7)?;
+///
+/// let driver = log.into_flash().into_flash().into_driver();
+/// let log = FlashLog::mount(SteadyFlash::mount(MarkedUnits::new(driver, 0, 2)?)?)?;
+/// assert_eq!(log.words().collect::<Vec<u32>>(), [5, 6, 7]);
+/// # Ok(())
+/// # }
+/// ```
+#[derive(Drop)]
+pub struct SteadyFlash<F: MarkedFlash + Drop> {
+    flash: F,
+    layout: Layout,
+    is_lost: bool,
+    ghost laid_out: { IsLaidOut (F.size flash) layout },
+}
+
+impl<F: MarkedFlash + Drop> SteadyFlash<F> {
+    /// Finds the pages of a flash, and settles what a power loss left in doubt. It erases nothing where a page is not found.
+    ///
+    /// # Errors
+    ///
+    /// `Unmounted` with the flash and the reason ([`MountError`]).
+    pub fn mount(flash: F) -> Result<SteadyFlash<F>, Unmounted<F>> {
+        let mut flash = flash;
+        let started = start(&mut flash);
+        SteadyFlash::of(flash, started)
+    }
+
+    /// Mounts a flash; where it is [`Unformatted`](MountError::Unformatted), its first pages keep what they hold, and are this flash's
+    /// from then on: those of a plain log at the same place, or blank ones. What they read as in this start stays.
+    ///
+    /// The power may be lost inside it, also again and again, where no mark of an earlier `SteadyFlash` stands there: it is made again.
+    /// So a firmware may call it at each start. What stood behind these pages is lost: the slots of the spare page, and all marks.
+    ///
+    /// # Errors
+    ///
+    /// `Unmounted` with the flash and the reason. A [`Damaged`](MountError::Damaged) flash, and one of
+    /// [another geometry](MountError::OtherGeometry), is refused as it is.
+    pub fn take_over(flash: F) -> Result<SteadyFlash<F>, Unmounted<F>> {
+        let mut flash = flash;
+        let started = take_over(&mut flash);
+        SteadyFlash::of(flash, started)
+    }
+
+    /// Erases all pages, whatever they hold, and mounts the flash. **All that it holds is lost.**
+    ///
+    /// The power may be lost inside it, also again and again, where the flash mounts, or no mark of an earlier `SteadyFlash` stands
+    /// there: it is made again. On any other flash, a damaged one or one without marks, no power loss may come before it answers
+    /// `Ok`. Marks of another geometry are none.
+    ///
+    /// # Errors
+    ///
+    /// `Unmounted` with the flash and the reason: `PageCount`, `Triples`, `Unreadable`, `Worn` or `Fault`.
+    pub fn format(flash: F) -> Result<SteadyFlash<F>, Unmounted<F>> {
+        let mut flash = flash;
+        let started = format(&mut flash);
+        SteadyFlash::of(flash, started)
+    }
+
+    fn of(flash: F, started: Result<Layout, MountError>) -> Result<SteadyFlash<F>, Unmounted<F>>
+        requires { IfOk started (λ layout. IsLaidOut (F.size flash) layout) }
+    {
+        match started {
+            Ok(layout) => Ok(SteadyFlash {
+                flash,
+                layout,
+                is_lost: false,
+            }),
+            Err(why) => Err(Unmounted { flash, why }),
+        }
+    }
+
+    /// Returns whether the flash was given up ([`MarkedFlash::give_up`]): each operation fails then.
+    pub fn is_lost(&self) -> bool {
+        self.is_lost
+    }
+
+    /// Returns the flash below, to look at it.
+    pub fn flash(&self) -> &F {
+        &self.flash
+    }
+
+    /// Returns the flash below as it is.
+    pub fn into_flash(self) -> F {
+        self.flash
+    }
+
+    /// Returns how many pages the log has.
+    pub fn pages(&self) -> usize
+        ensures { result ≡ self.now.layout.pages }
+    {
+        self.layout.pages
+    }
+
+    /// Reads a slot. One that is not there reads as no word.
+    pub fn read_slot(&self, page: usize, slot: usize) -> [u8; SLOT_BYTES]
+        ensures { IsSettled (F.slots self.now.flash) self.now.layout → page < self.now.layout.pages → slot < PAGE_SLOTS → result ≡ slot_at (image_of (F.slots self.now.flash) self.now.layout) page slot }
+    {
+        if page < self.layout.pages && slot < PAGE_SLOTS {
+            self.held_slot(page, slot)
+        } else {
+            NO_SLOT
+        }
+    }
+
+    /// Clears the bits of a slot that are clear in `bytes`.
+    ///
+    /// # Errors
+    ///
+    /// `FlashFault` as [`NorFlash`](crate::NorFlash) says.
+    pub fn program_slot(
+        &mut self,
+        page: usize,
+        slot: usize,
+        bytes: [u8; SLOT_BYTES],
+    ) -> Result<(), FlashFault>
+        ensures outcome { IsSettled (F.slots self.old.flash) self.old.layout → page < self.old.layout.pages → slot < PAGE_SLOTS → MatchResult result
+            (λ _. IsSettled (F.slots self.new.flash) self.new.layout × Programs (image_of (F.slots self.old.flash) self.old.layout) page slot bytes (image_of (F.slots self.new.flash) self.new.layout))
+            (λ _. (self.new.is_lost ≡ true) ⊎ (IsSettled (F.slots self.new.flash) self.new.layout × MayProgram (image_of (F.slots self.old.flash) self.old.layout) page slot bytes (image_of (F.slots self.new.flash) self.new.layout))) }
+        ensures same_pages { self.new.layout.pages ≡ self.old.layout.pages }
+    {
+        if !self.takes(page, slot) {
+            return Err(FlashFault);
+        }
+        let held = self.held_slot(page, slot);
+        let after = both(held, bytes);
+        if after == held {
+            return Ok(());
+        }
+        if held != BLANK {
+            return self.change(page, slot, after);
+        }
+        self.fill(page, slot, bytes)
+    }
+
+    /// Sets every bit of a page.
+    ///
+    /// # Errors
+    ///
+    /// `FlashFault` as [`NorFlash`](crate::NorFlash) says.
+    pub fn erase_page(&mut self, page: usize) -> Result<(), FlashFault>
+        ensures outcome { IsSettled (F.slots self.old.flash) self.old.layout → page < self.old.layout.pages → MatchResult result
+            (λ _. IsSettled (F.slots self.new.flash) self.new.layout × Erases (image_of (F.slots self.old.flash) self.old.layout) page (image_of (F.slots self.new.flash) self.new.layout))
+            (λ _. (self.new.is_lost ≡ true) ⊎ (IsSettled (F.slots self.new.flash) self.new.layout × MayErase (image_of (F.slots self.old.flash) self.old.layout) page (image_of (F.slots self.new.flash) self.new.layout))) }
+        ensures same_pages { self.new.layout.pages ≡ self.old.layout.pages }
+    {
+        if !self.takes(page, 0) {
+            return Err(FlashFault);
+        }
+        match erase_page(&mut self.flash, &mut self.layout, page) {
+            Ok(()) => Ok(()),
+            Err(Stop::InDoubt) => Err(self.give_up()),
+            Err(_) => Err(FlashFault),
+        }
+    }
+
+    /// Reads a slot that is there.
+    fn held_slot(&self, page: usize, slot: usize) -> [u8; SLOT_BYTES]
+        requires in_pages { page < self.now.layout.pages }
+        requires in_page { slot < PAGE_SLOTS }
+        ensures { IsSettled (F.slots self.now.flash) self.now.layout → result ≡ shown (F.slots self.now.flash) self.now.layout page slot }
+    {
+        self.flash
+            .read_slot(self.layout.held[page].page as usize, slot)
+    }
+
+    /// Moves a page with other bytes in one slot.
+    fn change(
+        &mut self,
+        page: usize,
+        slot: usize,
+        bytes: [u8; SLOT_BYTES],
+    ) -> Result<(), FlashFault>
+        requires in_pages { page < self.old.layout.pages }
+        requires in_page { slot < PAGE_SLOTS }
+        ensures outcome { IsSettled (F.slots self.old.flash) self.old.layout → MatchResult result
+            (λ _. IsChanged (F.slots self.old.flash) self.old.layout page slot bytes (F.slots self.new.flash) self.new.layout)
+            (λ _. (self.new.is_lost ≡ true) ⊎ IsKept (F.slots self.old.flash) self.old.layout (F.slots self.new.flash) self.new.layout) }
+        ensures same_pages { self.new.layout.pages ≡ self.old.layout.pages }
+    {
+        let change = Changed { slot, bytes };
+        match move_page(&mut self.flash, &mut self.layout, page, Some(change)) {
+            Ok(()) => Ok(()),
+            Err(Stop::InDoubt) => Err(self.give_up()),
+            Err(_) => Err(FlashFault),
+        }
+    }
+
+    /// Programs a slot that is blank where it stands.
+    fn fill(&mut self, page: usize, slot: usize, bytes: [u8; SLOT_BYTES]) -> Result<(), FlashFault>
+        requires in_pages { page < self.old.layout.pages }
+        requires in_page { slot < PAGE_SLOTS }
+        ensures outcome { IsSettled (F.slots self.old.flash) self.old.layout → shown (F.slots self.old.flash) self.old.layout page slot ≡ blank → (bytes ≡ blank → ⊥) → MatchResult result
+            (λ _. IsChanged (F.slots self.old.flash) self.old.layout page slot bytes (F.slots self.new.flash) self.new.layout)
+            (λ _. (self.new.is_lost ≡ true) ⊎ IsTornInto (F.slots self.old.flash) self.old.layout page slot bytes (F.slots self.new.flash) self.new.layout) }
+        ensures same_pages { self.new.layout.pages ≡ self.old.layout.pages }
+    {
+        if self.open(page).is_err() {
+            return Err(FlashFault);
+        }
+        let at = self.layout.held[page].page as usize;
+        match program_slot(&mut self.flash, at, slot, bytes) {
+            Ok(()) => Ok(()),
+            Err(_) => Err(self.settle_fault(page, slot)),
+        }
+    }
+
+    /// Says that slots of a page are programmed from here on: its next start settles it.
+    fn open(&mut self, page: usize) -> Result<(), Stop>
+        requires { page < self.old.layout.pages }
+        ensures slots { Same (F.slots self.old.flash) (F.slots self.new.flash) }
+        ensures same_pages { self.new.layout.pages ≡ self.old.layout.pages }
+        ensures same_places { (p : ℕ) → (held_at self.new.layout.held p).page ≡ (held_at self.old.layout.held p).page }
+    {
+        if self.layout.held[page].is_opened {
+            return Ok(());
+        }
+        program_mark(
+            &mut self.flash,
+            self.layout.held[page].page as usize,
+            OPEN,
+            ZEROS,
+        )?;
+        self.layout.held[page].is_opened = true;
+        Ok(())
+    }
+
+    /// Settles a slot that could not be programmed, as it reads once, before the fault is told.
+    fn settle_fault(&mut self, page: usize, slot: usize) -> FlashFault
+        requires in_pages { page < self.old.layout.pages }
+        requires in_page { slot < PAGE_SLOTS }
+        ensures outcome { (bytes : Bytes) → IsEight bytes → IsSettledBut (F.slots self.old.flash) self.old.layout page slot → IsTorn bytes (F.slots self.old.flash (held_at self.old.layout.held page).page slot)
+            → (self.new.is_lost ≡ true) ⊎ IsTornInto (F.slots self.old.flash) self.old.layout page slot bytes (F.slots self.new.flash) self.new.layout }
+        ensures same_pages { self.new.layout.pages ≡ self.old.layout.pages }
+    {
+        let read = self
+            .flash
+            .read_slot(self.layout.held[page].page as usize, slot);
+        let change = Changed { slot, bytes: read };
+        for _ in 0..TRIES {
+            match move_page(&mut self.flash, &mut self.layout, page, Some(change)) {
+                Ok(()) => return FlashFault,
+                Err(Stop::Fault) => {}
+                Err(_) => return self.give_up(),
+            }
+        }
+        self.give_up()
+    }
+
+    fn give_up(&mut self) -> FlashFault
+        ensures lost { self.new.is_lost ≡ true }
+        ensures same_layout { self.new.layout ≡ self.old.layout }
+    {
+        self.is_lost = true;
+        self.flash.give_up();
+        FlashFault
+    }
+
+    /// Whether an operation on this page may be made.
+    fn takes(&self, page: usize, slot: usize) -> bool
+        ensures { IsTrue result → (page < self.now.layout.pages) × (slot < PAGE_SLOTS) }
+    {
+        page < self.layout.pages
+            && slot < PAGE_SLOTS
+            && !self.is_lost
+            && self.layout.held[page].number <= LAST_WRITTEN
+    }
+}
+
+/// The bits that are set in both.
+fn both(held: [u8; SLOT_BYTES], bytes: [u8; SLOT_BYTES]) -> [u8; SLOT_BYTES]
+    ensures { (k : ℕ) → k < 8 → slice_index result k ≡ bit_and (slice_index held k) (slice_index bytes k) }
+{
+    let mut after = held;
+    for k in 0..SLOT_BYTES {
+        after[k] &= bytes[k];
+    }
+    after
+}
