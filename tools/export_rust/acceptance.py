@@ -11,7 +11,7 @@ from room import HERE, ROOT, Failed, building
 # Calls of the tests that the export makes private to a crate: the file, and how the call begins.
 CALLS = [("wuzhikar/src/parts/keymap_store/store.rs", "fn work<")]
 
-# What Rattle gives without a path, and what stands for it is in acceptance.rs.
+# What Rattle gives without a path; acceptance.rs replaces it.
 WORDS = {"AllocGlobal", "HostRuntime", "String"}
 
 MACROS = {"assert", "assert_eq", "panic"}

@@ -23,29 +23,29 @@ from scripts import Script, Whole, script
 from texts import text
 
 
-def of_script(number):
+def script_run(number):
     """The words and the input of a script's run: every second script is of all lines, the others as drivers send them."""
     pages, lines = script(number, Whole if number % 2 else Script)
     return ["run", "--pages", str(pages)], lines.encode()
 
 
-def of_text(number):
-    """Those of a report descriptor: as fields, or every third one as items."""
+def text_run(number):
+    """The words and the input for a report descriptor: its fields, or of every third one its items."""
     return ["parse", "--items"] if number % 3 == 2 else ["parse"], text(number).encode()
 
 
-def of_words(number):
-    """Those of a command line, which reads an empty input."""
+def words_run(number):
+    """The words of a command line, with an empty input."""
     return command_line(number), b""
 
 
-def of_explained(number):
-    """Those of a script's run whose answers are explained."""
-    words, given = of_script(number)
+def explained_run(number):
+    """The words and the input of a script's run whose answers are explained."""
+    words, given = script_run(number)
     return [*words, "--explain"], given
 
 
-KINDS = {"scripts": of_script, "explained": of_explained, "texts": of_text, "words": of_words}
+KINDS = {"scripts": script_run, "explained": explained_run, "texts": text_run, "words": words_run}
 
 
 def run(program, words, given):

@@ -4,18 +4,10 @@ Everything else is copied byte for byte. What may mean something else in Rust is
 """
 
 import rules
-from lexing import Refused, TRIVIA, after, before, find, group_end, text_at
+from lexing import Refused, after, before, find, group_end, text_at
 
 # The traits of calls that take memory.
 MEMORY = "crate::rattle::memory::*"
-
-
-def is_length(words):
-    """Whether these words begin with a call of `len`, as `a.b.len()`."""
-    names = 0
-    while names + 1 < len(words) and words[names].isidentifier() and words[names + 1] == ".":
-        names += 2
-    return names > 0 and words[names:names + 3] == ["len", "(", ")"]
 
 
 class Rewriter:
@@ -51,8 +43,6 @@ class Rewriter:
             self.refuse(token, "a clause within code, as of a closure")
         if token.text == "..":
             self.check_range(tokens, at)
-        if not self.hosted:
-            self.check_width(tokens, at)
         if token.kind == "word":
             return self.word(tokens, at)
         return token.text, at + 1
@@ -62,18 +52,6 @@ class Rewriter:
         before_it, after_it = text_at(tokens, before(tokens, at)), text_at(tokens, after(tokens, at))
         if after_it in ("{", ")") and before_it not in ("{", "(", ",", "|", "[") and not self.is_in_get(tokens, at):
             self.refuse(tokens[at], "a range without an end")
-
-    def check_width(self, tokens, at):
-        """Refuses what may be proved at 64 bits and overflow at 32: sums over an iterator or of two lengths, and `usize::MAX`."""
-        token = tokens[at]
-        words = [word.text for word in tokens[max(0, at - 8):at] if word.kind not in TRIVIA]
-        behind = [word.text for word in tokens[at + 1:at + 16] if word.kind not in TRIVIA]
-        if token.text in ("sum", "product") and words[-1:] == ["."] and behind[:1] in (["("], ["::"]):
-            self.refuse(token, f"`.{token.text}()`: where a chip has 32 bits it may overflow")
-        if token.text == "usize" and behind[:2] == ["::", "MAX"]:
-            self.refuse(token, "`usize::MAX`, which is another number on a chip")
-        if token.text in ("+", "+=") and words[-4:] == [".", "len", "(", ")"] and is_length(behind):
-            self.refuse(token, "a sum of two lengths: where a chip has 32 bits it may overflow")
 
     def is_in_get(self, tokens, at):
         """Whether a range is the argument of `get`, where it means what it does in Rust."""
@@ -145,7 +123,7 @@ class Rewriter:
         return token.text, at + 1
 
     def std(self, token, module):
-        """What stands for `std` before this module of it."""
+        """What replaces `std` before this module of it."""
         if module in rules.STD_STAND_INS:
             return "crate::rattle"
         if module in rules.STD_HOSTED:

@@ -33,7 +33,7 @@ class Rules:
     # Types that a keyboard is made of, by (crate, name): each gets a constant of zeros. Of an enum it is this variant, the
     # one that is zeros as rustc lays the enum out.
     unstarted: dict = field(default_factory=dict)
-    # Docs that name what is not in the crate, by (crate, module): pairs of what stands there once and what stands for it.
+    # Docs that name what is not in the crate, by (crate, module): pairs of a text that occurs there once and its replacement.
     docs: dict = field(default_factory=dict)
 
     @property
@@ -53,7 +53,7 @@ KEPT_UNITS = "**Needs** a flash that [`PairedFlash::format`] made, and that noth
 
 LOG = Rules(
     name="wuzhikar-log",
-    crates=("flash_model", "records", "page_turnover", "settings", "ecc_flash"),
+    crates=("flash_model", "records", "page_turnover", "settings", "ecc_flash", "steady_flash"),
     conditions={("flash_model", "sim"): HOSTED, ("flash_model", "masks"): HOSTED, ("ecc_flash", "witness"): LEFT_OUT,
                 ("page_turnover", "operation"): LEFT_OUT},
     hosted=frozenset({("flash_model", "sim")}),
@@ -64,7 +64,8 @@ LOG = Rules(
            ("page_turnover", "Log::begin_turn"): "LogCalls", ("page_turnover", "Log::offer_copy"): "LogCalls",
            ("page_turnover", "Log::seal"): "LogCalls", ("page_turnover", "Log::step_append"): "LogCalls",
            ("page_turnover", "Log::step_copy"): "LogCalls", ("page_turnover", "Log::step_turn"): "LogCalls"},
-    derives={("page_turnover", "Words"): ("Debug",), ("ecc_flash", "PairedFlash"): ("Debug",), ("ecc_flash", "CutFlash"): ("Debug",)},
+    derives={("page_turnover", "Words"): ("Debug",), ("ecc_flash", "PairedFlash"): ("Debug",), ("ecc_flash", "CutFlash"): ("Debug",),
+             ("steady_flash", "SteadyFlash"): ("Debug",), ("steady_flash", "Unmounted"): ("Clone", "Copy", "Debug", "PartialEq", "Eq")},
     unstarted={("page_turnover", "Log"): None, ("page_turnover", "Task"): "Task::Copy(Target::Unread, 0)"},
     docs={("flash_model", ""): [("`world` runs on", "the crate `kbsim` runs on")],
           ("records", ""): [(" (`theorems`).", ".")],
@@ -140,6 +141,7 @@ SIMULATOR = Rules(
     crates=("host", "world", "ecc_theorem", "text_io", "script", "kbsim", "parse_lines", "explanations"),
     below=(KEYBOARD, LOG, READER),
     allocs=True,
+    conditions={("world", module): LEFT_OUT for module in ("examples", "readings", "sessions")},
     hidden=frozenset({("world", "WorldOf::new"), ("host", "Host::new")}),
     fallible_clones=frozenset({("host", "UsageList"), ("host", "Reading")}),
     derives={("ecc_theorem", "Reported"): ("Debug",), ("kbsim", "Outcome"): ("Debug",), ("kbsim", "Step"): ("Debug",)},
@@ -176,22 +178,22 @@ USB = Rules(
 # All crates of plain Rust that are made, lowest first.
 WORKSPACE = (LOG, KEYBOARD, USB, READER, DETAILS, SIMULATOR)
 
-# Crates that are theorems or definitions alone, of which nothing is left.
-PROOF_CRATES = {"shapes", "session_theorem", "reading_theorem"}
+# Crates that are definitions alone, of which nothing is left.
+PROOF_CRATES = {"shapes"}
 
 # Real crates of the registry that the source's code is written over.
 LIBRARIES = {"arrayvec"}
 
-# Crates of the registry that a derive and an attribute of the source stand for.
+# Crates of the registry of which the source uses a derive and an attribute alone.
 DERIVING_LIBRARIES = {"thiserror"}
 
-# Crates that a module of `rattle` stands for.
+# Crates that a module of `rattle` replaces.
 STAND_INS = {"circular_buffer", "hex", "smallvec"}
 
 # Their types that have the constant of `unstarted`, written by hand.
 STAND_INS_UNSTARTED = {"HeapCircularBuffer"}
 
-# Modules of Rattle's std that a module of `rattle` stands for.
+# Modules of Rattle's std that a module of `rattle` replaces.
 STD_STAND_INS = {"alloc", "simd"}
 
 # Modules of Rattle's std whose parts are those of Rust's core.

@@ -16,10 +16,10 @@ WORD = re.compile(r"\s+|//[^\n]*|/\*.*?\*/|b?\"(?:\\.|[^\"\\])*\"|b?'(?:\\.[^']*
                   r"|[A-Za-z_]\w*|::|->|=>|\.\.=|\.\.|<<=|>>=|<<|&&|\|\||[-+*/%&|^=!<>]=|\S", re.S)
 PAIRS = {"(": ")", "[": "]", "{": "}"}
 
-# Calls that may fail in the source, and the calls by hand that stand for them.
+# Calls that may fail in the source, and the calls by hand that replace them.
 CALLS = {"push_in": "push", "insert_in": "insert", "extend_in": "extend_from_slice", "reserve_in": "reserve", "try_clone": "clone"}
 # Modules of the source that are no part of the product: they are tests' and a witness.
-LEFT_OUT = {"ecc_flash": {"witness"}, "page_turnover": {"operation"}}
+LEFT_OUT = {"ecc_flash": {"witness"}, "page_turnover": {"operation"}, "world": {"examples", "readings", "sessions"}}
 # Derives that the source has and Rust does by itself or has written out, and those that may be added: no code of the source calls them.
 DONE, ADDED = {"Drop", "Error"}, {"Clone", "Copy", "Debug", "Default", "PartialEq", "Eq"}
 
@@ -173,7 +173,7 @@ def writer(words, at):
 
 
 def arguments(words):
-    """`vec![in alloc; value; count]` as the call that stands for it."""
+    """`vec![in alloc; value; count]` as the call that replaces it."""
     made, at = [], 0
     while at < len(words):
         if words[at:at + 3] == ["of", "(", "in"]:

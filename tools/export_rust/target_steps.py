@@ -5,8 +5,9 @@ import shutil
 
 import acceptance
 import in_ram
+import widths
 from crate_steps import FEATURES
-from room import DEBIAN_RUSTC, Failed, Skipped, building, debian_sources, say
+from room import DEBIAN_RUSTC, HERE, Failed, Skipped, building, debian_sources, say
 from debian_crates import REGISTRY, SOURCE
 
 BARE = ("thumbv7em-none-eabi", "thumbv6m-none-eabi", "riscv32imc-unknown-none-elf")
@@ -86,6 +87,47 @@ def bare(room, _):
         raise Skipped(f"{', '.join(sorted(set(lacking)))}, which this rustc has no core for ({SOURCES})")
 
 
+# The crates whose proved code runs on chips, lowest first, with their features.
+ON_CHIPS = {"wuzhikar-log": ["--features", "settings"], "wuzhikar": [], "wuzhikar-device": []}
+# What has sums of a `usize` that only a contract bounds, and is left out until they are narrowed.
+WIDE = "/src/parts/steady_flash"
+
+
+def functions_of(room, name, words, constants):
+    """The functions that rustc, which these words call, writes of a crate."""
+    path = os.path.join(building.TARGET, f"{name}.mir")
+    room.run([*words, "--emit", f"mir={path}", "-Zmir-include-spans=on"], RUSTC_BOOTSTRAP="1")
+    with open(path, encoding="utf-8") as file:
+        return widths.functions(file.read(), constants)
+
+
+def refused_forms(room):
+    """How many planted forms there are, all of which are refused, and none of those beside them."""
+    words = ["rustc", "--edition", "2024", "--crate-type", "lib", os.path.join(HERE, "forms.rs")]
+    forms = functions_of(room, "forms", words, {})
+    for form in forms:
+        if any(map(form.fault, form.steps)) != form.name.startswith("refused"):
+            raise Failed(f"tools/export_rust/forms.rs: {form.name} is {'taken' if form.name.startswith('refused') else 'refused'}")
+    return sum(form.name.startswith("refused") for form in forms)
+
+
+def numbers_at_32_bits(room, _):
+    """Refuses what is proved at 64 bits and may mean something else where a `usize` has 32."""
+    count, constants, faults = refused_forms(room), {}, {}
+    for name, features in ON_CHIPS.items():
+        words = ["cargo", "rustc", "-p", name, "--lib", *features, "--"]
+        steps = [(function, step) for function in functions_of(room, name, words, constants) for step in function.steps
+                 if "/src/parts/" in step[3] and WIDE not in step[3]]
+        if not steps:
+            raise Failed(f"rustc wrote no step of the proved code of {name}")
+        for function, step in steps:
+            if why := function.fault(step):
+                faults[f"rust/{step[3]}:{step[4]}: {why}"] = None
+    if faults:
+        raise Failed("\n".join(faults))
+    say(f"the proved code of {', '.join(ON_CHIPS)}, but for steady_flash, means the same at 32 bits; {count} planted forms are refused")
+
+
 # Each build for 32 bits has one profile, so that std is built once, with overflow checks.
 NARROW_PROFILE = {"CARGO_PROFILE_RELEASE_OPT_LEVEL": "1", "CARGO_PROFILE_RELEASE_OVERFLOW_CHECKS": "true", "RUSTFLAGS": ""}
 
@@ -150,5 +192,6 @@ def narrow_tests(room, _):
 
 STEPS = {
     "bare targets": bare,
+    "numbers at 32 bits": numbers_at_32_bits,
     "32 bits": narrow_tests,
 }

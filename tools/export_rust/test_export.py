@@ -70,10 +70,6 @@ REFUSED = [
     "fn f() -> u8 { ghost let a = { 1 }; 1 }",
     "fn f() -> u8 requires a b { c } { 1 }",
     "fn f() -> u8 { for x in 250u8.. { return x; } 1 }",
-    "fn f(a: &[usize]) -> usize { a.iter().sum() }",
-    "fn f(a: &[usize]) -> usize { a.iter().copied().product::<usize>() }",
-    "fn f(a: &[u8], b: &[u8]) -> usize { a.len() + self.b.len() }",
-    "const N: usize = usize::MAX;",
     "const N: usize = size_of::<S>();",
     "const N: usize = std::mem::size_of::<S>();",
     "fn f() -> u8 { unsafe { 1 } }",
@@ -128,10 +124,6 @@ class Forms(unittest.TestCase):
         self.assertEqual(made, "impl Item { /// Tag.\n    #[inline(always)]\n    fn tag() -> u8 { 1 } }\nfn tag() -> u8 { 2 }\n")
         with self.assertRaises(Refused):
             rust("impl Item { #[inline(never)] fn tag() -> u8 { 1 } }\n", crate="descriptor_parse", of=rules.READER)
-
-    def test_a_field_with_the_name_of_a_sum_is_none(self):
-        source = "fn f(a: A) -> u8 { a.product }\n"
-        self.assertEqual(rust(source), source)
 
     def test_memory_that_waits_for_a_keyboard_is_zeros(self):
         of = dataclasses.replace(rules.KEYBOARD, unstarted={("keymap_store", name): None for name in "SRT"} | {("keymap_store", "E"): "E::A(0)"})

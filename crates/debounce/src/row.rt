@@ -66,7 +66,8 @@ pub(crate) fn joined(rows: &[u16; 6], pair: usize) -> u32
     requires { pair < 3 }
     ensures { (key : ℕ) → key / 32 ≡ pair → bit_at result (key % 32) ≡ bit_at (slice_index rows.now (key / 16)) (key % 16) }
 {
-    rows[2 * pair] as u32 + 0x1_0000 * rows[2 * pair + 1] as u32
+    let row = 2 * pair as u8;
+    rows[row as usize] as u32 + 0x1_0000 * rows[(row + 1) as usize] as u32
 }
 
 /// The rows of three pairs.

@@ -128,8 +128,9 @@ impl<F: EccFlash + Drop> NorFlash for PairedFlash<F> {
     }
 
     fn read_slot(&self, page: usize, slot: usize) -> [u8; SLOT_BYTES] {
-        let first = self.flash.read_unit(page, 2 * slot);
-        let second = self.flash.read_unit(page, 2 * slot + 1);
+        let unit = 2 * slot as u16;
+        let first = self.flash.read_unit(page, unit as usize);
+        let second = self.flash.read_unit(page, (unit + 1) as usize);
         read(first, second)
     }
 
@@ -191,8 +192,9 @@ fn program<F: EccFlash>(
     ensures healthy { F.is_healthy flash.old → is_word bytes ≡ true → slot_in (F.units flash.old) page slot ≡ blank → IsOk result × F.is_healthy flash.new }
     ensures operated { ProgramsPair F.units F.operates flash.old page slot bytes flash.new }
 {
-    let first = 2 * slot;
-    let second = first + 1;
+    let unit = 2 * slot as u16;
+    let first = unit as usize;
+    let second = (unit + 1) as usize;
     if !is_log_word(bytes) || !is_free(flash, page, first) || !is_free(flash, page, second) {
         return Err(FlashFault);
     }

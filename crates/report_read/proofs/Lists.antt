@@ -1,8 +1,7 @@
 -- The values that are left.
 use Rattle.std.proofs.Common.{◌≡◌, ℕ, zero, suc, ◌+◌, ◌-◌, ◌^◌, ◌<◌, ◌≤◌, List, [], ◌∷◌, ◌++◌, length, drop, take, get_or, arith, refl, sym, ◌∙◌, ap}
 use Rattle.std.specs.Prelude.{All, map, flat_map}
-use Rattle.std.proofs.lemmas.List.{take_all, take_more}
-use Rattle.std.proofs.lemmas.List.Elements.{All-push}
+use Rattle.std.proofs.lemmas.List.{take_all}
 use Rattle.std.proofs.lemmas.List.Folds.{flat_map-map}
 use Rattle.descriptor_parse.specs.Descriptor.{DescriptorValue, count_up}
 use Rattle.report_write.specs.declared.kept.Kept.{Kept}
@@ -84,12 +83,6 @@ end_value d bytes (lane ∷ lanes) place default v l p m e =
 
 -- ---- fields that are kept
 
-map_push : (lanes : List Lane) (lane : Lane) → map (λ (one : Lane). one.kept) (lanes ++ lane ∷ []) ≡ map (λ (one : Lane). one.kept) lanes ++ lane.kept ∷ []
+pub map_push : (lanes : List Lane) (lane : Lane) → map (λ (one : Lane). one.kept) (lanes ++ lane ∷ []) ≡ map (λ (one : Lane). one.kept) lanes ++ lane.kept ∷ []
 map_push [] lane = refl
 map_push (one ∷ lanes) lane = ap (λ xs. one.kept ∷ xs) (map_push lanes lane)
-
-pub lane_more : (d : DescriptorValue) (lanes items : List Lane) (kept : List Kept) (i : ℕ) (lane : Lane) (default : Kept) → i < length kept
-    → map (λ (one : Lane). one.kept) lanes ≡ take i kept → All (IsLane d) lanes → lane.kept ≡ get_or kept i default → IsLane d lane → items ≡ lanes ++ lane ∷ []
-    → (map (λ (one : Lane). one.kept) items ≡ take (i + 1) kept) × All (IsLane d) items
-lane_more d lanes items kept i lane default l m all k is e =
-    rw e (map_push lanes lane ∙ ap (λ xs. xs ++ lane.kept ∷ []) m ∙ ap (λ one. take i kept ++ one ∷ []) k ∙ sym (take_more kept i default l), All-push (IsLane d) lanes lane all is)

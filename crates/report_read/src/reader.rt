@@ -1,6 +1,6 @@
 //! A kept reader.
 
-ghost use Rattle.std.specs.Prelude.{◌≡◌, ◌<◌, ◌≤◌, ℕ, [], All, IfOk, IfErr, map, length, slice_get, option_map, Some, None, unwrap_or, MatchOption};
+ghost use Rattle.std.specs.Prelude.{◌≡◌, ◌+◌, ◌<◌, ◌≤◌, ℕ, Bool, List, [], All, IfOk, IfErr, map, length, slice_get, option_map, Some, None, unwrap_or, MatchOption};
 ghost use Rattle.descriptor_parse.specs.declared.field.Kind.{Kind};
 ghost use Rattle.descriptor_parse.specs.Beside.{IsRefusal};
 ghost use Rattle.descriptor_parse.specs.Descriptor.{Describes, report_len};
@@ -15,7 +15,7 @@ ghost use Rattle.report_read.specs.Items.{item_of, null_states_of};
 ghost use Rattle.report_read.specs.Values.{reading};
 ghost use Rattle.report_read.specs.Refusals.{refusal};
 ghost use Rattle.report_read.specs.representation.Lanes.{IsLane};
-ghost use Rattle.report_read.specs.representation.Plans.{IsPlan, ArePlans, plan_on};
+ghost use Rattle.report_read.specs.representation.Plans.{IsFilled, AreFilled, IsAdded, ArePlans, plan_on};
 
 use crate::error::ReadingError;
 use crate::items::{null_states_of, places_of};
@@ -24,7 +24,7 @@ use crate::reading::Reading;
 use descriptor_parse::beside::Refusal;
 use descriptor_parse::{Descriptor, Kind};
 use field_details::{Details, Placed, parse_details};
-use report_write::kept_fields;
+use report_write::kept_at;
 use std::alloc::{AllocError, Global};
 use std::marker::Model;
 
@@ -234,16 +234,68 @@ fn all_plans(
 ) -> Result<Vec<Plans>, AllocError>
     ensures { IfOk result (λ v. ArePlans descriptor.now null_states.now v.items) }
 {
+    let mut by_id = empty_plans(alloc, descriptor)?;
+    for number in 0..descriptor.fields().len() {
+        add_field(descriptor, null_states, number, &mut by_id)?;
+    }
+    Ok(by_id)
+}
+
+/// The reports by their IDs, without their fields.
+fn empty_plans(alloc: Global, descriptor: &Descriptor) -> Result<Vec<Plans>, AllocError>
+    ensures filled { (null_states : List Bool) → IfOk result (λ v. AreFilled descriptor.now null_states 0 v.items) }
+    ensures all { IfOk result (λ v. All (λ field. field.id < length v.items) descriptor.now.fields) }
+{
     let rows = rows_of(descriptor);
     let mut by_id = Vec::with_capacity(alloc, rows as usize)?;
     for id in 0..rows {
         by_id.push(Plans {
-            input: plan_of(alloc, descriptor, null_states, Kind::Input, id as u8)?,
-            output: plan_of(alloc, descriptor, null_states, Kind::Output, id as u8)?,
-            feature: plan_of(alloc, descriptor, null_states, Kind::Feature, id as u8)?,
+            input: empty_plan(alloc, descriptor, Kind::Input, id as u8),
+            output: empty_plan(alloc, descriptor, Kind::Output, id as u8),
+            feature: empty_plan(alloc, descriptor, Kind::Feature, id as u8),
         })?;
     }
     Ok(by_id)
+}
+
+/// The report of a kind and ID, without its fields.
+fn empty_plan(alloc: Global, descriptor: &Descriptor, kind: Kind, id: u8) -> Plan
+    ensures { (null_states : List Bool) → IsFilled descriptor.now null_states kind id 0 result }
+{
+    Plan {
+        len: descriptor.report_len(kind, id).unwrap_or(0),
+        lanes: Vec::new(alloc),
+    }
+}
+
+/// Adds a field to its report, which has those before it.
+fn add_field(
+    descriptor: &Descriptor,
+    null_states: &[bool],
+    number: usize,
+    by_id: &mut [Plans],
+) -> Result<(), AllocError>
+    requires there { number < length descriptor.now.fields }
+    requires all { All (λ field. field.id < length by_id.old) descriptor.now.fields }
+    requires filled { AreFilled descriptor.now null_states.now number by_id.old }
+    ensures filled { IfOk result (λ _. AreFilled descriptor.now null_states.now (number + 1) by_id.new) }
+    ensures long { length by_id.new ≡ length by_id.old }
+{
+    let kept = kept_at(descriptor, null_states, number);
+    let lane = Lane::new(descriptor, &kept);
+    push_lane(&mut by_id[kept.field.id as usize], kept.field.kind, lane)
+}
+
+/// Adds a field to the report of a kind.
+fn push_lane(plans: &mut Plans, kind: Kind, lane: Lane) -> Result<(), AllocError>
+    ensures { IfOk result (λ _. IsAdded kind lane plans.old plans.new) }
+{
+    match kind {
+        Kind::Input => plans.input.lanes.push(lane)?,
+        Kind::Output => plans.output.lanes.push(lane)?,
+        Kind::Feature => plans.feature.lanes.push(lane)?,
+    }
+    Ok(())
 }
 
 /// How many IDs there are up to the last that a field has.
@@ -256,45 +308,4 @@ fn rows_of(descriptor: &Descriptor) -> u16
         rows = rows.max(field.id as u16 + 1);
     }
     rows
-}
-
-/// The report of a kind and ID.
-fn plan_of(
-    alloc: Global,
-    descriptor: &Descriptor,
-    null_states: &[bool],
-    kind: Kind,
-    id: u8,
-) -> Result<Plan, AllocError>
-    ensures { IfOk result (λ plan. IsPlan descriptor.now null_states.now kind id plan) }
-{
-    match descriptor.report_len(kind, id) {
-        None => Ok(Plan {
-            len: 0,
-            lanes: Vec::new(alloc),
-        }),
-        Some(len) => Ok(Plan {
-            len,
-            lanes: lanes_of(alloc, descriptor, null_states, kind, id)?,
-        }),
-    }
-}
-
-/// The fields of a report.
-fn lanes_of(
-    alloc: Global,
-    descriptor: &Descriptor,
-    null_states: &[bool],
-    kind: Kind,
-    id: u8,
-) -> Result<Vec<Lane>, AllocError>
-    ensures fields { IfOk result (λ v. map (λ lane. lane.kept) v.items ≡ kept_fields descriptor.now null_states.now kind id) }
-    ensures lanes { IfOk result (λ v. All (IsLane descriptor.now) v.items) }
-{
-    let kept = kept_fields(alloc, descriptor, null_states, kind, id)?;
-    let mut lanes = Vec::with_capacity(alloc, kept.len())?;
-    for one in &kept {
-        lanes.push(Lane::new(descriptor, one))?;
-    }
-    Ok(lanes)
 }

@@ -1,9 +1,10 @@
 //! The fields of one report.
 
-ghost use Rattle.std.specs.Prelude.{◌≡◌, false, All, IfOk, slice_get, unwrap_or};
+ghost use Rattle.std.specs.Prelude.{◌≡◌, ◌<◌, false, All, IfOk, length, get_or, slice_get, unwrap_or};
+ghost use Rattle.descriptor_parse.specs.declared.field.Field.{Field};
 ghost use Rattle.descriptor_parse.specs.Descriptor.{ranges_at, bits_of};
 ghost use Rattle.descriptor_parse.specs.Readers.{is_of_report};
-ghost use Rattle.report_write.specs.Fields.{kept_fields};
+ghost use Rattle.report_write.specs.Fields.{kept, kept_fields};
 ghost use Rattle.report_write.specs.representation.Fits.{FitsKept};
 
 use descriptor_parse::{Descriptor, Field, FieldUsages, Kind};
@@ -45,6 +46,19 @@ pub fn kept_fields(
         }
     }
     Ok(kept)
+}
+
+/// A field of the descriptor, with its number.
+pub fn kept_at(descriptor: &Descriptor, null_states: &[bool], number: usize) -> Kept
+    requires { number < length descriptor.now.fields }
+    ensures kept { (default : Field) → result ≡ kept null_states.now number (get_or descriptor.now.fields number default) }
+    ensures fits { FitsKept descriptor.now (bits_of descriptor.now result.field.kind result.field.id) result }
+{
+    Kept {
+        number,
+        null_state: has_null_state(null_states, number),
+        field: descriptor.fields()[number],
+    }
 }
 
 /// Whether a field has Null State; one past the list has none.

@@ -78,7 +78,7 @@ fn each_refused<T: PartialEq + Debug, E: PartialEq + Debug + Memory>(call: impl 
 }
 
 /// Refuses each growth while a text is parsed whole and in pieces, its descriptor copied, and a report read.
-fn of_text(text: &[u8]) -> usize {
+fn refused_for(text: &[u8]) -> usize {
     let mut refused = each_refused(|| parse(text)) + each_refused(|| in_pieces(text, 1)) + each_refused(|| in_pieces(text, 8));
     let Ok(descriptor) = parse(text) else {
         return refused;
@@ -113,7 +113,7 @@ pub fn check(texts: impl Iterator<Item = Vec<u8>>) {
     let (mut count, mut refused) = (0, 0);
     for text in texts {
         count += 1;
-        refused += of_text(&text);
+        refused += refused_for(&text);
     }
     assert!(refused > 0);
     println!("{count} texts, {refused} refused growths, each told, and nothing changed");

@@ -1,10 +1,9 @@
-use Rattle.std.proofs.Common.{◌≡◌, ℕ, length, Some}
-use Rattle.std.specs.Prelude.{slice_get}
-use Rattle.descriptor_parse.specs.declared.field.Kind.{Kind}
-use Rattle.report_read.specs.declared.reader.Plans.{Plans}
-use Rattle.report_read.specs.representation.Plans.{IsPlan, plan_on}
+use Rattle.std.proofs.Common.{◌<◌, length}
+use Rattle.std.specs.Prelude.{All}
+use Rattle.descriptor_parse.specs.declared.field.Field.{Field}
+use Rattle.report_read.specs.representation.Plans.{AreFilled}
 use Rattle.report_read.proofs.reader.all_plans.Given as goal
 
-abbrev pub invariant-loop-id : goal.invariant-loop-id
-invariant-loop-id l = (length l.by_id.items ≡ l.id)
-    × ((k : ℕ) (plans : Plans) → slice_get l.by_id.items k ≡ Some plans → (kind : Kind) → IsPlan l.descriptor l.null_states kind k (plan_on kind plans))
+abbrev pub invariant-loop-number : goal.invariant-loop-number
+invariant-loop-number l = AreFilled l.descriptor l.null_states l.number l.by_id.items
+    × All (λ (field : Field). field.id < length l.by_id.items) l.descriptor.fields
