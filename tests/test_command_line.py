@@ -207,7 +207,7 @@ class Words(Calls):
 
     @unittest.skipUnless(IS_PLAIN, "the proved program prints no items")
     def test_items_that_are_lost_are_reported(self):
-        # Into a pipe that does not wait, and has room for the line of the fault alone.
+        # The output is a pipe that does not wait, and has room only for the line of the fault.
         reader, writer = os.pipe()
         self.addCleanup(os.close, reader)
         self.addCleanup(os.close, writer)

@@ -32,7 +32,7 @@ def options_of_all():
 
 
 class EntryScript(unittest.TestCase):
-    """A repository in small, and a folder of programs that stands for the PATH."""
+    """A small repository, and a folder of programs that is the PATH."""
 
     def setUp(self):
         folder = tempfile.TemporaryDirectory()
@@ -346,7 +346,7 @@ sleep 0.5
 
     def test_a_folder_that_cannot_be_written(self):
         self.add_cargo()
-        # (A file in its place stands for it: root writes into any folder.)
+        # (A file takes its place, since root may write into any folder.)
         self.write("out", "")
         status, printed, said = self.call("run")
         self.assertEqual((status, printed), (1, ""))

@@ -130,7 +130,7 @@ class HidReader(unittest.TestCase):
         self.both("tests/memory.c", said, options=WRAPPED)
 
     def test_the_calls_of_a_reader(self):
-        said = "each refusal of a reader's calls; requests refused in turn: 20 of a reader, 1 of bytes, 5 of a report, 4 of changes\n"
+        said = "each refusal of a reader's calls; requests refused in turn: 18 of a reader, 1 of bytes, 5 of a report, 4 of changes\n"
         self.both("tests/kept.c", said, options=WRAPPED)
 
     def test_attributes_and_values_are_those_of_the_reference_reader(self):

@@ -2,8 +2,8 @@
 
 They run on the program that the variable KBSIM names, or else on bin/kbsim. `-k WORD` runs the tests whose heading holds this word.
 
-Rows stand in files `*.rows`. `== NAME: WORDS` begins a test, whose cases the program runs with these words; `--image 2` stands for an
-image of two pages. `//` begins a remark. A case takes one of three forms; a blank line ends the first two.
+Rows stand in files `*.rows`. `== NAME: WORDS` begins a test, whose cases the program runs with these words; `--image 2` gives
+an image of two pages. `//` begins a remark. A case takes one of three forms; a blank line ends the first two.
 
 - A script beside its answers: `set 0 0 0005 = ack` is a line and what it prints after its number; a line that prints nothing stands
   alone. `255 times: A = x; B = y` repeats rows. `# flash 0 1-511 05000010faffffef` says what slots of the image hold.
@@ -346,7 +346,7 @@ class Long(Program):
         self.prints(["parse"], "0" * 1_048_577, "fault too long\n", 1)
 
     def test_the_longest_array(self):
-        # 2,048 items of two bytes, which is a comment of the rest; one byte more; and as many bytes as the text can say.
+        # 2,048 items of two bytes, and a comment that fills the text; one item more; and as many bytes as a text can name.
         for count, fault in [(4_096, ""), (4_098, "fault parse 16 at 4096\n")]:
             array = "0x75,1," * (count // 2) + "//"
             self.prints(["parse", "--from", "c"], array + "x" * (1_048_576 - len(array)), fault, int(fault != ""))

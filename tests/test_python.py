@@ -61,21 +61,21 @@ class Package(unittest.TestCase):
                 self.assertEqual(refused.exception.offset, fault.offset, text.hex())
                 continue
             with self.hid.Reader(text) as reader:
-                told = [self.of_package(reader, detail) for detail in reader.details]
-                self.assertEqual(told, [self.of_reference(declared, item) for item in declared.declared], text.hex())
+                told = [self.package_row(reader, detail) for detail in reader.details]
+                self.assertEqual(told, [self.reference_row(declared, item) for item in declared.declared], text.hex())
                 reports = [(self.kind(kind), number, declared.bits(kind, number)) for kind, number in declared.reports()]
                 self.assertEqual([(report.kind, report.id, report.bits) for report in reader.reports], reports)
                 found = [(one.offset, one.type, one.usage, one.outer) for one in reader.collections]
                 self.assertEqual(found, [tuple(collection) for collection in declared.collections], text.hex())
 
     @staticmethod
-    def of_package(reader, detail):
+    def package_row(reader, detail):
         usages = detail.usages if detail.field is not None else ()
         return (detail.offset, detail.kind, detail.flags, detail.id, detail.bit, detail.size, detail.count, detail.min, detail.max,
                 detail.physical_min, detail.physical_max, detail.exponent, detail.exponents, usages, detail.strings,
                 detail.designators, [one.number for one in reader.around(detail.item)])
 
-    def of_reference(self, declared, item):
+    def reference_row(self, declared, item):
         exponents = None if isinstance(item.dimensions, str) else tuple(item.dimensions)
         usages = () if item.constant else tuple(item.usages)
         return (item.offset, self.kind(item.kind), item.flags, item.id, item.bit, item.size, item.count, item.least, item.greatest,

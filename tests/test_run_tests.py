@@ -128,7 +128,7 @@ class Locked(unittest.TestCase):
     STEP = next(step for step in run_tests.STEPS if step.name == "what Cargo.lock names")
 
     def lacks(self, cargo):
-        """What the step lacks where this script is cargo."""
+        """What the step says is lacking when this script is the cargo on the PATH."""
         with tempfile.TemporaryDirectory() as folder:
             for name in ("cargo", "rustc"):
                 with open(f"{folder}/{name}", "w", encoding="utf-8") as file:

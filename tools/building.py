@@ -1,10 +1,9 @@
-"""Where the checks of bin/test build by cargo: one copy of the repository and one target folder, out/build, so that each crate is
-built once, and nothing is written beside what is committed.
+"""Builds all checks of bin/test with cargo, in one copy of the repository and one target folder (out/build). So each crate is built
+once, and nothing is written into the repository itself.
 
-The copy has no Cargo.lock, which is for the public registry. Where Debian's crates are taken, cargo's configuration there is
-tools/debian.toml, and the packages that need other crates are left out. Called as a program (tools/cargo FOLDER WORD..) it
-runs cargo in a folder of the copy; without a word it builds the programs of the repository's own workspace, which is that of the
-top folder, and prints where they are.
+The copy has no Cargo.lock, which is for the public registry. If Debian's crates are used, tools/debian.toml configures cargo there,
+and packages that need other crates are left out. As a program (tools/cargo FOLDER WORD..) this file runs cargo in a folder of the
+copy. Without a word it builds the programs of the top folder's workspace, and prints where they are.
 """
 
 import contextlib
@@ -29,7 +28,7 @@ CONFIGURATION = f"{FOLDER}/.cargo/config.toml"
 
 @contextlib.contextmanager
 def alone():
-    """What no other step does at the same time."""
+    """Holds the lock of the copy, so that no other step works on it at the same time."""
     os.makedirs(TREE, exist_ok=True)
     with open(f"{FOLDER}/lock", "w") as lock:
         fcntl.flock(lock, fcntl.LOCK_EX)
@@ -37,7 +36,7 @@ def alone():
 
 
 class Wrong(Exception):
-    """What could not be built: cargo's words, and what it said."""
+    """A build that failed: cargo's arguments, and what it printed."""
 
 
 def files(top):

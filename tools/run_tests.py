@@ -180,7 +180,7 @@ class Run:
             print(text, flush=True)
 
     def take(self, step, alone=True):
-        """Runs one step, or skips it. What one prints that is not alone is shown when it has ended."""
+        """Runs one step, or skips it. The output of a step that runs beside others is shown when the step has ended."""
         if lacks := step.lacks():
             self.say(f"-- {step.name}: skipped, {lacks}")
             self.skipped.append(f"{step.name} ({lacks})")
@@ -203,7 +203,7 @@ class Run:
         return ran.stdout.strip() if ran.returncode == 0 else ""
 
     def summary(self):
-        """The last lines."""
+        """Prints the last lines: the longest steps, what was skipped or failed, and what the gate said."""
         print(f"== summary: {len(self.times)} steps in {time.monotonic() - self.begun:.0f} s")
         for spent, name in sorted(self.times, reverse=True)[:5] if len(self.times) > 5 else []:
             print(f"   {spent:.0f} s: {name}")

@@ -12,14 +12,13 @@
  *
  * Calls. No call waits, but for the functions that the firmware lends. One call at a time: none of an object may begin on
  * another thread or in an interrupt while one of this object runs, nor of two keyboards on two threads where one has a layout.
- * A call of an object inside of a call of it, from a function of its flash or its driver, is answered by WZ_BUSY and does
- * nothing.
+ * A call of an object inside another call of it, from a function of its flash or its driver, returns WZ_BUSY and does nothing.
  *
- * Answers. Each call gives a number from 0 on, or a status below 0, and then it did nothing else but what is said there.
+ * Answers. Each call returns a number from 0 on, or a status below 0. With a status it has done only what is said there.
  * Beside the statuses that a call names, any call gives WZ_NULL where it needs a pointer and that is null or not aligned, and
  * WZ_LENGTH of a count or a room of more than memory can hold.
  *
- * Pointers. Behind one stand as many values as its type or the count beside it says. Nobody writes what a call reads while it
+ * Pointers. A pointer leads to as many values as its type or the count beside it says. Nobody writes what a call reads while it
  * runs, and no pointer leads into an object. None is kept but those of a layout, of a context and of names. */
 #ifndef WUZHIKAR_H
 #define WUZHIKAR_H
@@ -41,7 +40,7 @@ enum wz_status {
     WZ_NULL = -3,        /* a pointer, or a function of a table, is null, or a pointer is not aligned */
     WZ_LENGTH = -4,      /* a length is too large for this call */
     WZ_NOT_STARTED = -5, /* the object was not started, or is a copy */
-    WZ_BUSY = -6,        /* a call inside of a call of this object */
+    WZ_BUSY = -6,        /* a call inside another call of this object */
     WZ_PAGES = -7,       /* the flash has not 2 to 8 pages */
     WZ_CODE = -8,        /* a number of a layout is no code */
     WZ_RANGE = -9,       /* a number is outside of what the call takes */
@@ -53,7 +52,7 @@ enum wz_status {
     WZ_NO_ROOM = -15,    /* a log: the active page has no room, or there is none */
     WZ_UNSOUND = -16,    /* slot 0 of a page is not sound, so nothing may be written */
     WZ_WORN = -17,       /* the sequence numbers are used up */
-    WZ_FAULT = -18,      /* the flash failed, and what was written does not read back; what was stored before stays */
+    WZ_FAULT = -18,      /* the flash failed, and what was written doesn't read back; what was stored before stays */
     WZ_TOO_LONG = -19,   /* a setting: more than 64 bytes */
     WZ_FULL = -20,       /* settings: the values would not fit on a page */
     WZ_FOREIGN = -21     /* settings: the flash holds words of something else */
@@ -62,8 +61,8 @@ enum wz_status {
 /* The name of a status, as "NotStarted"; "Ok" from 0 on, "Unknown" for a number that is none. It lasts. */
 const char *wz_status_name(int status);
 
-/* What the library calls where a state comes that its proofs exclude. The firmware defines it, and resets the chip there, or
- * loops. It does not return. No input is known that leads there. */
+/* The library calls it in a state that its proofs exclude. The firmware defines it: it resets the chip or loops, and does not
+ * return. No input is known that leads there. */
 #if defined(__cplusplus) && __cplusplus >= 201103L
 [[noreturn]]
 #elif defined(__GNUC__)
@@ -139,7 +138,7 @@ typedef union wz_paired {
 int wz_paired_start(wz_paired *paired, const wz_units *units);
 
 /* Erases all units, and so all that was stored: for the maker, never for a start in the field. WZ_PAGES; WZ_FAULT where a page
- * does not read as erased, or the flash told of a fault. */
+ * does not read as erased, or the flash reported a fault. */
 int wz_paired_format(wz_paired *paired, const wz_units *units);
 
 /* The functions of a wz_flash whose context is a wz_paired. Where it was not started, or inside of a call of it, or of another
@@ -183,8 +182,8 @@ typedef union wz_keyboard {
 
 /* Starts a keyboard on a flash, whose keymap it reads; nothing is written. It begins in the report protocol, without a LED or
  * a transfer, unlocked. The layout is null for the standard one; it is not copied, and stays as it is as long as the keyboard
- * is used. The pace is the least number of scans between two commands that change the keymap, and before the first: 0 to
- * 4,000, and 0 for none (SECURITY.md). WZ_PAGES, WZ_CODE, WZ_RANGE for the pace, in this order. */
+ * is used. The pace is the least number of scans before the first command, and between two: 0 for none, at most 4,000
+ * (SECURITY.md). WZ_PAGES, WZ_CODE, WZ_RANGE for the pace, in this order. */
 int wz_keyboard_start(wz_keyboard *keyboard, const wz_flash *flash, const wz_layout *layout, uint16_t pace);
 
 /* Takes a scan of the matrix, one each millisecond: bit c of row r of the six is set while key 16 r + c is closed. Five equal
@@ -210,7 +209,7 @@ int wz_keyboard_leds(wz_keyboard *keyboard);
 /* 1 in the boot protocol, 0 in the report protocol (HID 1.11 section 7.2.6). */
 int wz_keyboard_is_boot(wz_keyboard *keyboard);
 
-/* 1 where nothing was stored on the flash since it was erased, else 0. */
+/* 1 if nothing was stored on the flash since it was erased, else 0. */
 int wz_keyboard_is_first_start(wz_keyboard *keyboard);
 
 /* The code of a key on a layer. WZ_RANGE for a layer of 4 or more, or a key of 96 or more. */
@@ -267,8 +266,8 @@ typedef struct wz_identity {
 
 /* What a controller has met since it was looked at before; it begins as zeros. */
 typedef struct wz_waiting {
-    uint8_t reset;      /* the bus was reset. What stands beside it came behind it */
-    uint8_t has_setup;  /* a SETUP packet, the newest. What stands beside it, but for a reset, came before it */
+    uint8_t reset;      /* the bus was reset. All other members are of what came after it */
+    uint8_t has_setup;  /* a SETUP packet, the newest. All other members but the reset are of what came before it */
     uint8_t has_out;    /* an OUT packet that was acknowledged */
     uint8_t taken;      /* the host has taken the packet of endpoint 0, and acknowledged it */
     uint8_t setup[8];
@@ -285,11 +284,11 @@ enum wz_endpoint { WZ_ENDPOINT_OFF = 0, WZ_ENDPOINT_READY = 1, WZ_ENDPOINT_HALTE
 
 /* A controller that is handed packets beforehand. A start copies the table. Anything that its bus permits may happen before each
  * call takes effect: those marked * are without effect where a SETUP packet or a reset has come that waiting did not give, and
- * those marked + behind a reset that forget did not follow.
+ * those marked + after a reset, until forget is called.
  *
  * It acknowledges each SETUP packet, which empties both buffers of endpoint 0. It counts the data toggles: a packet is sent
- * until the host acknowledges it, and one that the host repeats is acknowledged and not reported (USB 2.0 section 8.6.4). A
- * reset empties all buffers, and drops what was not reported. docs/firmware.md, "Buffers", has two drivers to copy. */
+ * until the host acknowledges it, and one that the host repeats is acknowledged and dropped (USB 2.0 section 8.6.4). A reset
+ * empties all buffers, and drops what waiting did not give. docs/firmware.md, "Buffers", names drivers to copy, in Rust. */
 typedef struct wz_driver {
     void *context;
     /* Writes what was met, which is then forgotten. */
@@ -302,13 +301,13 @@ typedef struct wz_driver {
     void (*set_address)(void *context, uint8_t address);
     /* Whether endpoint 1 has two buffers: another number than 0. */
     int (*has_two)(void *context);
-    /* How many packets of endpoint 1 the host has taken; each is reported once. */
+    /* How many packets of endpoint 1 the host has taken since the last call. */
     size_t (*taken_1)(void *context);
     /* + Endpoint 1 is this enum wz_endpoint from now on, with empty buffers and DATA0. */
     void (*begin_anew)(void *context, int endpoint);
     /* + Empties the buffers of endpoint 1: the next packet has the toggle of the oldest one that was in them. */
     void (*give_up)(void *context);
-    /* The host has the status packet of the request behind the last begin_anew. */
+    /* The host has the status packet of the request that caused the last begin_anew. */
     void (*host_began)(void *context);
     /* Follows a reset: endpoint 1 is off, with empty buffers and DATA0. */
     void (*forget)(void *context);
@@ -327,7 +326,7 @@ typedef union wz_device {
 int wz_device_start(wz_device *device, const wz_flash *flash, const wz_layout *layout, uint16_t pace,
                     const wz_identity *identity, const wz_driver *driver);
 
-/* Takes what the controller has met, and fills its buffers. Call it when an interrupt of the controller has come, and behind
+/* Takes what the controller has met, and fills its buffers. Call it when an interrupt of the controller has come, and after
  * each scan and each work; it may be called at any time. */
 int wz_device_serve(wz_device *device);
 
@@ -347,7 +346,7 @@ int wz_device_suspended(wz_device *device);
 int wz_device_resumed(wz_device *device);
 
 /* 1 once in each suspend, where the host enabled remote wakeup and a report waits: signal K for 1 to 15 ms, not before the bus
- * was idle for 5 ms (USB 2.0 section 7.1.7.7). Else 0. Ask it behind wz_device_serve. */
+ * was idle for 5 ms (USB 2.0 section 7.1.7.7). Else 0. Call it after wz_device_serve. */
 int wz_device_wakes(wz_device *device);
 
 /* ---- Log: words of 32 bits that no loss of power spoils (docs/log.md) ---- */
@@ -373,8 +372,8 @@ int wz_log_start(wz_log *log, const wz_flash *flash);
 /* Writes the words of the log, the oldest first, as many as there is room for, and gives how many there are, 0 to 511. */
 int wz_log_words(wz_log *log, uint32_t *words, size_t room);
 
-/* Appends a word, which is stored behind WZ_OK: one program. WZ_NOT_NOW, WZ_UNSOUND, WZ_NO_ROOM: wz_log_rewrite makes some, and
- * a blank flash needs it first; WZ_FAULT. */
+/* Appends a word by one program; it is stored when WZ_OK is returned. WZ_NOT_NOW, WZ_UNSOUND, WZ_NO_ROOM: wz_log_rewrite makes
+ * some, and a blank flash needs it first; WZ_FAULT. */
 int wz_log_push(wz_log *log, uint32_t word);
 
 /* Compacts to the next page with these words alone, at most 511, which are in force at once: at most one erase, a program for
@@ -417,8 +416,8 @@ int wz_settings_start(wz_settings *settings, const wz_flash *flash);
 /* Writes the value of an id, and gives its length, 0 to 64. WZ_ABSENT where it has none; WZ_ROOM, and nothing is written. */
 int wz_settings_get(wz_settings *settings, uint16_t id, uint8_t *bytes, size_t room);
 
-/* The same of the first id from one on that has a value, which is written to *id. Begin with 0 and go on with *id + 1;
- * WZ_ABSENT ends it, also from 65,536 on. Each call reads all values before. */
+/* The same for the first id of from or above that has a value; the id goes to *id. Begin with 0, and go on with *id + 1, until
+ * WZ_ABSENT; a from of 65,536 or more gives that, too. Each call reads all earlier values. */
 int wz_settings_next(wz_settings *settings, uint32_t from, uint16_t *id, uint8_t *bytes, size_t room);
 
 /* Stores a value, and returns when it is stored; nothing is written where the id has it. It makes 1 to 23 programs, and one for

@@ -16,9 +16,9 @@
  * may be more.
  *
  * Memory: calls write results to the caller's memory; a name that is returned as a pointer stays valid. Nothing is to be
- * freed; a handle is closed by hidr_close. A call that names HIDR_NO_MEMORY allocates by malloc, others allocate nothing. The
- * memory of hidr_parse, of a parser and of hidr_reader_open is kept until the handle is closed. All other is freed before the
- * call ends.
+ * freed; a handle is closed by hidr_close. A call that names HIDR_NO_MEMORY allocates by malloc. So do the views and calls that
+ * take memory as they do: without any they end the process. Others allocate nothing. The memory of hidr_parse, of a parser and
+ * of hidr_reader_open is kept until the handle is closed. All other is freed before the call ends.
  *
  * Any thread may call at any time. Calls on one handle take turns; those on different handles don't wait for each other, but
  * for the moment in which a slot is taken or given back. A handle may be closed while another thread uses it: that call has
@@ -296,7 +296,7 @@ typedef struct hidr_value {
 } hidr_value;
 
 /* Reads the values of a report of a kind, in the order of its fields and places (HID 1.11, 5.6 and 8.4). If `rest` is not null,
- * *rest is how many bytes stand behind the report's end. HIDR_OVERLAP of report and values; HIDR_EMPTY_REPORT,
+ * *rest is how many bytes come after the report's end. HIDR_OVERLAP of report and values; HIDR_EMPTY_REPORT,
  * HIDR_UNKNOWN_REPORT, HIDR_SHORT_REPORT. */
 hidr_status hidr_read(hidr_reader reader, uint8_t kind, const uint8_t *report, size_t length, hidr_value *into, size_t room,
                       size_t *count, size_t *rest);
@@ -384,12 +384,12 @@ hidr_status hidr_read_all(hidr_reader reader, uint8_t kind, const uint8_t *repor
 hidr_status hidr_put_raw(hidr_reader reader, uint8_t kind, uint8_t *report, size_t length, size_t field, uint16_t place,
                          uint32_t number);
 
-/* Puts bytes into a field of a whole report from its first bit on; no other bit changes, and bits behind the field's end have to
+/* Puts bytes into a field of a whole report from its first bit on; no other bit changes, and bits after the field's end have to
  * be 0. HIDR_NO_MEMORY; then it refuses as hidr_put_raw. */
 hidr_status hidr_put_bytes(hidr_reader reader, uint8_t kind, uint8_t *report, size_t length, size_t field, const uint8_t *bytes,
                            size_t count);
 
-/* Makes a report of a kind and ID, 0 where none is used, with these bytes behind the ID, and 0 where there are fewer: its first
+/* Makes a report of a kind and ID, 0 where none is used, with these bytes after the ID, and 0 where there are fewer: its first
  * `room` bytes. It takes memory as the views do. HIDR_UNKNOWN_REPORT; HIDR_TOO_LARGE if the report has fewer bytes. */
 hidr_status hidr_raw_report(hidr_reader reader, uint8_t kind, uint8_t id, const uint8_t *bytes, size_t count, uint8_t *into,
                             size_t room, size_t *length);
@@ -449,14 +449,14 @@ typedef struct hidr_contact {
     int64_t id;       /* Contact Identifier, the same from report to report */
     uint8_t has_id;
     uint8_t touches;  /* Tip Switch */
-    uint8_t is_valid; /* Touch Valid: 0, 1, and 2 where it is not told */
+    uint8_t is_valid; /* Touch Valid: 0 or 1; 2 if the report has none */
 } hidr_contact;
 
 /* The contacts of a report: one for each Finger collection, at most so many as Contact Count says where that is not 0. */
 hidr_status hidr_view_touch(hidr_reader reader, const uint8_t *report, size_t length, hidr_contact *into, size_t room,
                             size_t *count);
 
-/* A pen. Where it is not in range the rest says nothing. */
+/* A pen. If it is not in range, the other members mean nothing. */
 typedef struct hidr_pen {
     hidr_axis x, y, pressure, tilt[2];
     uint8_t in_range, touches, erases, is_inverted;

@@ -189,7 +189,7 @@ def compare_one(folder, player, cases, count, name="kbsim"):
 
 
 def compare_other(folder, count):
-    """Compares the keyboard with other default codes with the exported crate's."""
+    """Compares the peer with the exported crate, both with other default codes."""
     lacks = [name for name in ("rustc", "cargo") if not shutil.which(name)]
     if lacks:
         say(f"skipped: other default codes, since there is no {' and no '.join(lacks)} (Debian: rustc-web cargo-web)")

@@ -31,8 +31,8 @@ def counted(program, room, lines, events):
     return round((many - few) / (times * len(lines) * events))
 
 
-def through(way, section, *tools):
-    """The rows of the program that bin/kbsim takes in a way."""
+def section_rows(way, section, *tools):
+    """A function that gives the rows of a section, measured on the program that bin/kbsim takes in a way."""
 
     def rows(room):
         needs(*tools, "valgrind")
@@ -44,4 +44,4 @@ def through(way, section, *tools):
     return rows
 
 
-SECTIONS = {"scripts": through("proved", "scripts", "rt"), "plain": through("plain", "plain", "cargo")}
+SECTIONS = {"scripts": section_rows("proved", "scripts", "rt"), "plain": section_rows("plain", "plain", "cargo")}

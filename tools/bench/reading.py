@@ -22,7 +22,31 @@ CONTACT = "01{:02x}34025601"
 
 # The usages 1 to 1,024, as one range and one by one.
 RANGE = "19012a0004"
-SINGLES = "".join(f"0a{usage.to_bytes(2, 'little').hex()}" for usage in range(1, 1025))
+
+
+def two(number):
+    """A number in two bytes."""
+    return number.to_bytes(2, "little").hex()
+
+
+def singles(count):
+    """So many usages, one by one."""
+    return "".join(f"0a{two(usage)}" for usage in range(1, count + 1))
+
+
+def array(count):
+    """An Array of so many places, over as many usages that are declared one by one."""
+    return f"0600ff150026ff0f751096{two(count)}{singles(count)}8100"
+
+
+def fields(count):
+    """So many fields of one usage each."""
+    return "0600ff1500250175089501" + "".join(f"0a{two(usage)}8102" for usage in range(1, count + 1))
+
+
+def reports(count):
+    """So many reports of one field each."""
+    return "0600ff1500250175089501" + "".join(f"85{identifier:02x}09028102" for identifier in range(1, count + 1))
 
 
 def example(name):
@@ -41,9 +65,9 @@ def ten_fingers():
     return "".join(text), f"01{contacts}1000{FINGERS:02x}"
 
 
-def many_places(usages):
-    """A field of 1,024 places of two bits with these usages of a vendor's page."""
-    return f"0600ff{usages}1500250275029600048102"
+def many_places(usages, count=1024):
+    """A field of so many places of two bits with these usages of a vendor's page."""
+    return f"0600ff{usages}15002502750296{two(count)}8102"
 
 
 def touch_screen():
@@ -55,22 +79,31 @@ def touch_screen():
     return "".join(cases["a_touch_screen: parse"][0].given.decode().split())
 
 
+# What is to grow as its input does: a row's name, what is counted, and the input by a number.
+GROWING = [
+    ("{} settings of as many usages that are declared one by one", "write", lambda count: many_places(singles(count), count), 256),
+    ("{} settings of an Array of as many places", "write", array, 128),
+    ("{} settings of as many fields", "write", fields, 127),
+    ("a reader of {} reports", "new", reports, 127),
+]
+
+
 def rows(room):
-    """All rows."""
+    """Measures all rows."""
     for tool in ("cargo", "valgrind"):
         if not shutil.which(tool):
             raise Skipped(f"there is no {tool}")
     room.cargo("build", "--profile", "counted", "--package", "tell", cwd=room.tree)
     count, kbsim = room.program("count", profile="counted"), program_steps.built()
 
-    def counted(*words):
-        many, few = (instructions(room, [count, *words, times], b"") for times in ("111", "11"))
-        return round((many - few) / 100)
+    def counted(*words, times=(111, 11)):
+        many, few = (instructions(room, [count, *words, str(number)], b"") for number in times)
+        return round((many - few) / (times[0] - times[1]))
 
     keyboard, text = "".join(example("keyboard")), touch_screen()
     alone = counted("parse", text)
 
-    def of_line(*words):
+    def counted_line(*words):
         read = [kbsim, "read", *words, f"{ROOT}/examples/hid_driver/keyboard.hex"]
         many, few = (instructions(room, read, f"{BOOT}\n".encode() * times) for times in (1100, 100))
         return round((many - few) / 1000)
@@ -79,10 +112,12 @@ def rows(room):
         Row("reader", "a boot report of a keyboard, 14 values", counted("read", keyboard, BOOT), None),
         Row("reader", "a report of a touch screen with ten contacts, 42 values", counted("read", *ten_fingers()), None),
         Row("reader", "1,024 settings of a field with one range of usages", counted("write", many_places(RANGE)), None),
-        Row("reader", "1,024 settings of a field whose usages are declared one by one", counted("write", many_places(SINGLES)), None),
+        Row("reader", "1,024 settings of a field whose usages are declared one by one", counted("write", many_places(singles(1024))), None),
         Row("reader", "details of a descriptor of 1,103 bytes, beside its parse", counted("details", text) - alone, alone),
-        Row("reader", "a boot report in hex by `kbsim read`, its line of text with it", of_line(), None),
-        Row("reader", "a boot report in hex by `kbsim read --json`, its object with it", of_line("--json"), None),
+        Row("reader", "a boot report in hex by `kbsim read`, its line of text with it", counted_line(), None),
+        Row("reader", "a boot report in hex by `kbsim read --json`, its object with it", counted_line("--json"), None),
+        *(Row("reader", f"{name.format(2 * most)}, beside {most}", *(counted(word, made(number), times=(3, 1)) for number in (2 * most, most)))
+          for name, word, made, most in GROWING),
     ]
 
 

@@ -24,7 +24,7 @@ def built(room, folder, name, target):
     return room.program(name, target.triple)
 
 
-def on_chip(room, folder, target):
+def chip_rows(room, folder, target):
     """The rows of a chip: text, and where its instructions can be run RAM and stack."""
     told = room.run([f"{target.prefix}size", built(room, folder, "smallest", target)]).decode().split("\n")[1]
     yield f"text of the smallest program with settings, {CHIPS[target.name]}, bytes", int(told.split()[0])
@@ -56,7 +56,7 @@ def rows(room):
     if not shutil.which("ld.lld"):
         raise Skipped("there is no ld.lld (Debian: lld)")
     folder = room.package("bench/settings")
-    found = [row for target in targets for row in on_chip(room, folder, target)]
+    found = [row for target in targets for row in chip_rows(room, folder, target)]
     return [Row("settings", what, number, None) for what, number in [*found, *operations(room, folder)]]
 
 

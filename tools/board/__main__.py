@@ -39,12 +39,12 @@ PARTS = ("calls", "cuts", "hosts", "faults")
 
 def short(bench, lists, minutes):
     """Runs what always runs of these lists of tasks, and then the rest in so many minutes; whether nothing failed."""
-    return all(beside(bench, [[task for task in tasks if task.least == least] for tasks in lists], limit)
+    return all(run_lists(bench, [[task for task in tasks if task.least == least] for tasks in lists], limit)
                for least, limit in [(True, LEAST), (False, minutes)])
 
 
-def beside(bench, lists, minutes):
-    """Runs lists of tasks in so many minutes, beside one another where there are processors; whether nothing failed."""
+def run_lists(bench, lists, minutes):
+    """Runs lists of tasks at the same time, as many as there are processors, for so many minutes; whether nothing failed."""
     bench.clock = rig.Time(minutes)
     with concurrent.futures.ThreadPoolExecutor(min(len(lists), len(os.sched_getaffinity(0)))) as threads:
         return all([*threads.map(lambda some: tasks.run(bench, some), lists)])
@@ -53,10 +53,10 @@ def beside(bench, lists, minutes):
 def asked(bench, given):
     """The tasks of the parts that are asked for."""
     lists = {
-        "hosts": tasks.of_hosts(bench),
-        "faults": tasks.of_faults(bench),
+        "hosts": tasks.host_tasks(bench),
+        "faults": tasks.fault_tasks(bench),
         "calls": [tasks.Task("calls", 30, lambda: tasks.measure(bench, given.write))],
-        "cuts": tasks.of_cuts(bench, given.seed),
+        "cuts": tasks.cut_tasks(bench, given.seed),
     }
     return [some for part, some in lists.items() if given.only in (None, part)]
 

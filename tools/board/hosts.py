@@ -28,7 +28,7 @@ class Hosts:
         self.booted = machines.boot(work, self.programs, b"")
 
     def type_on(self, board, say):
-        """Each host types on the chip that this command runs; the lines in which it finds otherwise than it should."""
+        """Lets each host type on the chip that this command runs; gives the lines that are not as they should be."""
         keyboard = machines.Keyboard([*board, "host"], SIZE, SERIAL)
         names = lists.followed(self.programs)
         _, differing = machines.follow(self.work, keyboard, self.booted, names)

@@ -112,15 +112,15 @@ class Typing:
             raise Failed("\n    ".join([f"{name}: a host finds otherwise than it should:", *differing]))
 
 
-def of_hosts(bench):
-    """The tasks of the hosts, one after the other: they wait for one another most of the time."""
+def host_tasks(bench):
+    """The tasks that let hosts type, one after the other, since each waits most of the time."""
     typing = Typing(bench)
     return [Task(f"{name}: hosts that type on it", 90, lambda name=name, features=features: typing.act(name, features))
             for name, features in LOOPS.items()]
 
 
-def of_cuts(bench, seed):
-    """The tasks that cut, the firmwares in turn."""
+def cut_tasks(bench, seed):
+    """The tasks that cut the power, for each firmware in turn."""
     told = lambda name, features, words: lambda: say(f"{name}: {bench.told(name, features, *words)}")  # noqa: E731
     first = next(iter(FIRMWARES))
     tasks = [Task(f"{name}: a session", 5, lambda name=name, features=features: session(bench, name, features), name == first)
@@ -134,8 +134,8 @@ def of_cuts(bench, seed):
     return tasks
 
 
-def of_faults(bench):
-    """The tasks that plant. The first fault always is."""
+def fault_tasks(bench):
+    """The tasks that plant a fault each. The first fault is always planted."""
     return [Task(f"planted: {fault.name}", 25, lambda fault=fault: find(bench, fault), fault is FAULTS[0]) for fault in [*FAULTS, HARMLESS]]
 
 

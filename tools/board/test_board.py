@@ -66,7 +66,7 @@ class Least(unittest.TestCase):
 
     def test_it_is_a_session_cuts_of_each_kind_and_a_fault(self):
         bench = types.SimpleNamespace(firmwares=rig.FIRMWARES | rig.IN_C)
-        least = [task.name for task in tasks.of_cuts(bench, 1) + tasks.of_faults(bench) if task.least]
+        least = [task.name for task in tasks.cut_tasks(bench, 1) + tasks.fault_tasks(bench) if task.least]
         kinds = [name.partition(": ")[2].split()[0] for name in least[1:-1]]
         self.assertEqual(kinds, ["instructions", "operations", "words", "random"])
         self.assertEqual((least[0], least[-1]), (f"{next(iter(rig.FIRMWARES))}: a session", f"planted: {FAULTS[0].name}"))

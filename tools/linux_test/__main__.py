@@ -97,7 +97,7 @@ class Test:
         """A stock Linux whose own function the keyboard is, from Rust and from C."""
         folder = f"{self.work}/function"
         os.mkdir(folder)
-        python = parts.of_python(folder)
+        python = parts.python_package(folder)
         if not python:
             print(f"linux-test: skipped: the package of Python on hidraw, no {parts.PYTHON} (Debian: python3)")
         programs = {**self.programs, "function_in_c": parts.function_in_c(folder), **python}

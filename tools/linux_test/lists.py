@@ -17,8 +17,8 @@ def followed(programs):
 
 
 def expected(text, size):
-    """The lines that Linux is to say where a list is followed, for packets of this size: all but comments and empty lines. SIZE
-    stands for the size, as sysfs has it."""
+    """The lines that Linux has to print when it follows a list, for packets of this size: all but comments and empty lines. SIZE
+    is replaced by the size, as sysfs has it."""
     lines = [line for line in text.replace("SIZE", f"{size:04x}").splitlines() if line and not line.startswith("#")]
     return lines
 

@@ -29,8 +29,8 @@ def qemu(*words, line="stdio"):
             "-nic", "none", "-no-reboot", "-serial", line, *words]
 
 
-def behind(number, path):
-    """The words for a keyboard at this socket, behind the machine's controller."""
+def keyboard_words(number, path):
+    """The words of QEMU for a keyboard at this socket, behind the machine's controller."""
     return ["-chardev", f"socket,id=kb{number},path={path}", "-device", f"usb-redir,chardev=kb{number},bus=usb.0"]
 
 
@@ -43,14 +43,14 @@ class Keyboard(NamedTuple):
 
     @contextlib.contextmanager
     def at(self, path):
-        """It waits at a socket; its hands."""
+        """Lets the keyboard wait at a socket, and gives its hands."""
         with running([*self.command, "guest", path]) as hands:
             hands.until("\n")
             yield hands
 
     @contextlib.contextmanager
     def on_line(self, path, image):
-        """It waits at a socket, on a flash. Its hands are at the other end of a line, which is given."""
+        """Lets the keyboard wait at a socket, on a flash, and gives the end of a line to its hands."""
         ours, theirs = socket.socketpair()
         with ours, theirs:
             streams = f'exec "$@" <&{ours.fileno()} >&{ours.fileno()} 2>&1'
@@ -75,7 +75,7 @@ def boot(work, programs, reports, names=guest.MODULES):
     return *paths, release
 
 
-def of(booted, words):
+def boot_words(booted, words):
     """The words of QEMU for a Linux that boots with these words."""
     return ["-kernel", booted[0], "-initrd", booted[1], "-append", f"{WORDS} {words}"]
 
@@ -87,8 +87,8 @@ def linux(work, keyboard, booted, words):
     with open(image, "wb") as file:
         file.write(guest.full_image())
     with keyboard.on_line(path, image) as line:
-        command = qemu(*of(booted, f"wire={keyboard.serial} {words}"), "-chardev", f"socket,id=hands,fd={line.fileno()}", "-serial", "chardev:hands")
-        with running([*command, "-device", "qemu-xhci,id=usb", *behind(0, path)], (line.fileno(),)) as machine:
+        command = qemu(*boot_words(booted, f"wire={keyboard.serial} {words}"), "-chardev", f"socket,id=hands,fd={line.fileno()}", "-serial", "chardev:hands")
+        with running([*command, "-device", "qemu-xhci,id=usb", *keyboard_words(0, path)], (line.fileno(),)) as machine:
             machine.until("--- off")
             return machine.text()
 
@@ -108,7 +108,7 @@ def function(booted, sizes, names):
     """Follows lists on keyboards that are a function of the Linux that is their host, each by a program whose name is its serial
     number, with packets of this size: where what was said is otherwise."""
     try:
-        with running(qemu(*of(booted, f"function={','.join(sizes)} lists={','.join(names)}"))) as machine:
+        with running(qemu(*boot_words(booted, f"function={','.join(sizes)} lists={','.join(names)}"))) as machine:
             machine.until("--- off")
             found, _ = lists.sections(machine.text())
     except Silent as error:
@@ -123,7 +123,7 @@ def bios(work, keyboard, controller):
     path = f"{work}/bios"
     refusal = f"USB keyboard wMaxPacketSize={keyboard.size}; aborting"
     with keyboard.at(path) as hands:
-        command = qemu("-device", f"{CONTROLLERS[controller]},id=usb", *behind(0, path))
+        command = qemu("-device", f"{CONTROLLERS[controller]},id=usb", *keyboard_words(0, path))
         command += ["-drive", f"file={work}/disk,format=raw,if=ide"]
         command += ["-chardev", f"file,id=log,path={work}/log", "-device", "isa-debugcon,iobase=0x402,chardev=log"]
         with running(command) as machine:

@@ -1,7 +1,7 @@
 """What Linux parsed of a report descriptor, as its debugfs prints it (drivers/hid/hid-debug.c, rdesc), beside `kbsim parse --json`.
 
 Each rule that makes Linux say something else than the reader is counted by its name. Linux prints usages by names of its own: one
-name has to stand for one usage all the time.
+name has to mean one usage all the time.
 """
 
 import re
@@ -52,7 +52,7 @@ class Parsed:
         self.rules, self.names, self.fields = rules, {}, 0
 
     def is_named(self, name, usage):
-        """Whether a name of Linux may be that of a usage: it stands for no other one, and its digits are those of the usage."""
+        """Whether a name of Linux may be that of a usage: it means no other one, and its digits are those of the usage."""
         digits = re.search(r"\.([0-9a-f]{4})$", name)
         own = self.names.setdefault(name, usage)
         return own == usage and (not digits or int(digits[1], 16) == usage & 0xFFFF)
@@ -84,8 +84,8 @@ class Parsed:
         found = {word: [one["usage"] for one in around if one["type"] == kind] for word, kind in AROUND.items()}
         return {word: all_[-1] for word, all_ in found.items() if all_ and all_[-1]}
 
-    def of_field(self, told, item, said):
-        """What Linux says otherwise of a field."""
+    def field_differences(self, told, item, said):
+        """The differences between Linux and the reader in a field."""
         self.fields += 1
         own, around = self.wanted(item), self.around(told, item)
         rest = {word: value for word, value in said.items() if word not in {"usages", "Usage", *AROUND}}
@@ -109,5 +109,5 @@ class Parsed:
             if len(own) != len(fields) or any((said["Report Offset"], said["Report Size"], said["Report Count"]) not in padding for said in constant):
                 differing.append(f"{name}, {kind} {number}: Linux has the fields {fields + constant}, the reader {own}")
             for item, said in zip(own, fields):
-                differing += (f"{name}, {kind} {number}: {line}" for line in self.of_field(told, item, said))
+                differing += (f"{name}, {kind} {number}: {line}" for line in self.field_differences(told, item, said))
         return differing

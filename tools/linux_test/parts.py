@@ -115,7 +115,7 @@ def function_in_c(work):
     return program
 
 
-def of_python(work):
+def python_package(work):
     """The package python/ with its library, and what Python loads for it: by their paths in the guest. Empty without Debian's Python."""
     if not os.path.exists(PYTHON):
         return {}

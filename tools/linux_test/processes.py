@@ -74,7 +74,7 @@ class Program:
 
 @contextlib.contextmanager
 def running(command, fds=(), patience=PATIENCE, longest=LONGEST):
-    """A program that is ended behind the block."""
+    """Runs a program, and ends it after the block."""
     program = Program(command, fds, patience, longest)
     try:
         yield program

@@ -75,37 +75,37 @@ class Values(unittest.TestCase):
         return values.Linux(told, keys, self.rules)
 
     @staticmethod
-    def of(field, *told):
+    def given(field, *told):
         return [{"field": field, "place": place, "usage": usage, "value": value, "within": within}
                 for place, (usage, value, within) in enumerate(told)]
 
     def test_a_hat_is_two_axes(self):
         device = self.device({})
         for value, axes in ((1, (0, -1)), (3, (1, 0)), (6, (-1, 1)), (0, (0, 0)), (9, (0, 0)), (15, (0, 0))):
-            device.take(self.of(0, (values.HAT, value, "range" if 1 <= value <= 8 else "null")))
+            device.take(self.given(0, (values.HAT, value, "range" if 1 <= value <= 8 else "null")))
             self.assertEqual((device.axes[0, 16], device.axes[0, 17]), axes, value)
         self.assertEqual(self.rules["a hat outside its extents is at rest"], 3)
 
     def test_a_button_that_comes_again_has_no_key(self):
         device = self.device({0x90001: [272]})
-        device.take(self.of(1, (0x90001, 1, "range"), (0x90002, 1, "range")))
+        device.take(self.given(1, (0x90001, 1, "range"), (0x90002, 1, "range")))
         self.assertEqual((device.down, self.rules["a usage has no key and no axis"]), ({272}, 1))
-        device.take(self.of(1, (0x90001, 0, "range"), (0x90002, 0, "range")))
+        device.take(self.given(1, (0x90001, 0, "range"), (0x90002, 0, "range")))
         self.assertEqual(device.down, set())
 
     def test_two_usages_of_one_key(self):
         device = self.device({0x70031: [43], 0x70032: [43]})
-        device.take(self.of(2, (0x70000, 0, "range"), (0x70031, 49, "range")))
+        device.take(self.given(2, (0x70000, 0, "range"), (0x70031, 49, "range")))
         self.assertEqual(device.down, {43})
-        device.take(self.of(2, (0x70032, 50, "range"), (0x70000, 0, "range")))
+        device.take(self.given(2, (0x70032, 50, "range"), (0x70000, 0, "range")))
         self.assertEqual(device.down, set(), "the first is pressed before the second is let go")
-        device.take(self.of(2, (values.ROLLOVER, 1, "range"), (values.ROLLOVER, 1, "range")))
-        device.take(self.of(2, (0x70032, 50, "range"), (0x70031, 49, "range")))
+        device.take(self.given(2, (values.ROLLOVER, 1, "range"), (values.ROLLOVER, 1, "range")))
+        device.take(self.given(2, (0x70032, 50, "range"), (0x70031, 49, "range")))
         self.assertEqual(device.down, {43})
 
     def test_a_wheel_is_told_in_120ths(self):
         device = self.device({})
-        device.take(self.of(3, (0x10038, -2, "range")))
+        device.take(self.given(3, (0x10038, -2, "range")))
         self.assertEqual(device.moves, {(0, 11): -240})
 
     def test_there_are_real_descriptors(self):

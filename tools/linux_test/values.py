@@ -301,7 +301,7 @@ class Values:
         for name, device in self.devices.items():
             lines = told.get(name, collections.defaultdict(list))
             found += self.parsed.differences(name, device.reader.told, lines["P"])
-            found += self.of_values(name, device, lines)
+            found += self.value_differences(name, device, lines)
             for kind, wanted in device.said().items():
                 found += [f"{name}: Linux says {kind} {here!r}, and not {own!r}" for here, own in zip_longest(lines[kind], wanted) if here != own][:3]
         counts = {words: sum(len(getattr(device, of)) for device in self.devices.values())
@@ -310,7 +310,7 @@ class Values:
               + " beside what kbsim says; rules of Linux: " + "; ".join(f"{rule} ({count})" for rule, count in sorted(self.rules.items()) if count), flush=True)
         return found
 
-    def of_values(self, name, device, lines):
+    def value_differences(self, name, device, lines):
         """What Linux says otherwise of keys, axes and moves."""
         usages = collections.defaultdict(list)
         for usage, code in (word.split("=") for word in " ".join(lines["key"]).split()):

@@ -25,14 +25,14 @@ export const defaultCode = (layer, key) => (layer > 0 ? TRANSPARENT : key < 88 ?
 export const keyWith = (usage) => (usage >= 0xe0 ? 88 + usage - 0xe0 : usage - 4);
 
 /**
- * The keymap after a command: operation 1 sets an entry, 2 resets a layer, 3 all.
+ * Returns the keymap after a command: operation 1 sets an entry, 2 resets a layer, 3 resets all.
  * @param {Uint16Array} keymap
  * @param {number} operation
  * @param {number} layer
  * @param {number} key
  * @param {number} code
  */
-export function after(keymap, operation, layer, key, code) {
+export function afterCommand(keymap, operation, layer, key, code) {
     const next = keymap.slice();
     if (operation === 1) next[entryOf(layer, key)] = code;
     for (let l = 0; l < LAYERS; l++) {

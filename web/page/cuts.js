@@ -1,7 +1,7 @@
 // Every cut of a change: before each of its flash operations, and inside of it, torn in many ways.
 
 import { SET_FEATURE, setReport } from "./bench.js";
-import { after } from "./codes.js";
+import { afterCommand } from "./codes.js";
 import { CELLS, Device, KEYS, LAYERS, SLOT, same } from "./device.js";
 import { headerWord, imageOf, recordWord } from "./slots.js";
 
@@ -58,7 +58,7 @@ export function masks(ways, paired = false) {
  * @returns {Promise<Outcome | null>} null where the keyboard does not take the change
  */
 export async function everyCut(device, [layer, key, code], ways, progress = () => {}) {
-    const before = device.keymap(), wanted = after(before, 1, layer, key, code);
+    const before = device.keymap(), wanted = afterCommand(before, 1, layer, key, code);
     device.setup(SET_FEATURE);
     if (device.out(setReport(layer, key, code)).kind !== "ack") return null;
     /** @type {Outcome} */

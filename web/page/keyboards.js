@@ -10,7 +10,7 @@ import { reason } from "./packets.js";
 export const FILTER = { usagePage: 0xff00, usage: 0x01 };
 const REPORT = 3;
 
-/** What can be told before a command is sent, since a stall has no reason on a real bus. */
+/** Refuses what the keyboard would refuse, with the reason, since a stall on a real bus has none. */
 function check(operation, layer, key, code) {
     if (operation < 3 && layer >= LAYERS) throw new Refused(reason(8));
     if (operation < 2 && key >= KEYS) throw new Refused(reason(9));
@@ -19,9 +19,9 @@ function check(operation, layer, key, code) {
 const GONE = "the power or the bus went before it was confirmed";
 const OTHER = "another program selected an entry meanwhile; read again";
 const REFUSES = "the keyboard refused it, and USB does not tell why: its flash failed, is worn or damaged, or the cable";
-/** A host gives a transfer up after 5 s, and a browser tells that as it tells a refusal. */
+/** A host gives up a transfer after 5 s, and a browser reports this like a refusal. */
 const PATIENCE = 4900;
-/** The first pause behind a refusal, and the longest one. */
+/** The first pause after a refusal, and the longest one. */
 const PAUSES = [50, 500];
 const UNANSWERED = "the keyboard did not answer in time";
 const UNCONFIRMED = "the keyboard did not confirm it in time: each entry is the old one or the new one. Read all to see which";

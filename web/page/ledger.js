@@ -1,6 +1,6 @@
 // The ledger: after each event, what the computer was told against what the keymap says.
 
-import { after } from "./codes.js";
+import { afterCommand } from "./codes.js";
 import { same } from "./device.js";
 import { SET_FEATURE } from "./bench.js";
 
@@ -52,7 +52,7 @@ export class Ledger {
         if (!this.feature || said.kind !== "ack" || packet.length !== 6 || packet[1] === 0) return;
         const [, operation, layer, key, low, high] = packet;
         this.commands++;
-        this.pending = after(this.told, operation, layer, key, low | (high << 8));
+        this.pending = afterCommand(this.told, operation, layer, key, low | (high << 8));
         this.waits = true;
         if (same(this.pending, this.told)) this.settle();
     }

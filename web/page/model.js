@@ -1,6 +1,6 @@
 // What the page shows: which view, layer and key, which keyboard, and who is told when it changes.
 
-import { after, codeName } from "./codes.js";
+import { afterCommand, codeName } from "./codes.js";
 import { LAYERS, KEYS, entryOf } from "./device.js";
 import { Refused } from "./bytes.js";
 import { SimKeyboard } from "./keyboards.js";
@@ -133,7 +133,7 @@ export class Model {
         for (const at of entries) this.waiting.delete(at);
         this.changed();
         if (!done) return false;
-        const now = after(before, operation, layer, key, code);
+        const now = afterCommand(before, operation, layer, key, code);
         if (!target.simulated) for (const at of entries) this.read[at] = now[at];
         const changes = entries.filter((at) => before[at] !== now[at]).map((at) => /** @type {[number, number]} */ ([at, before[at]]));
         if (keep && changes.length) this.undos.push(changes);

@@ -80,7 +80,7 @@ const CODES = {
 };
 
 /**
- * The key of the matrix that stands for a key of the user's own keyboard, or -1.
+ * The key of the matrix that a key of the user's own keyboard presses, or -1.
  * @param {Picture} picture
  * @param {string} code KeyboardEvent.code
  */

@@ -1,7 +1,7 @@
 // Keeps which controls of the page were used: run by the tests before the page's own script.
 (() => {
     const CONTROLS = "button, select, input, textarea";
-    /** What a control is called: its id, or its row and what it stands for there. */
+    /** What a control is called: its id, or its row with the key or code that it sets there. */
     const called = (element) => {
         if (element.id) return `${element.tagName.toLowerCase()}#${element.id}`;
         const { key, code } = element.dataset, row = element.closest("[id]");

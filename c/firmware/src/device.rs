@@ -98,11 +98,11 @@ pub extern "C" fn wz_device_start(
     driver: Value<DriverTable>,
 ) -> c_int {
     device.start(|memory| {
-        let flash = Flash::of(&flash)?;
+        let flash = Flash::from_table(&flash)?;
         let codes = checked(&layout)?;
         let identity = identity.get()?.read()?;
         let product: &'static Product<'static> = memory.product.insert(Product::of(identity));
-        let bus = Bus(memory.driver.insert(Driver::of(&driver)?));
+        let bus = Bus(memory.driver.insert(Driver::from_table(&driver)?));
         let behind = start_in(&mut memory.keyboard, flash, codes, paced(pace)?)?;
         let layer = DeviceLayer::new(product.descriptors());
         Ok(Device { codes, bus, device: UsbDevice::new(layer, behind, bus, identity.packet_size) })

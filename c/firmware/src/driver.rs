@@ -33,15 +33,15 @@ macro_rules! functions {
             $($name: Option<$kind>,)*
         }
 
-        /// A driver by such a table.
+        /// A driver, made of such a table.
         pub struct Driver {
             context: *mut c_void,
             $($name: $kind,)*
         }
 
         impl Driver {
-            /// The driver of a table. `Null` where the table or a function of it is.
-            pub fn of(table: &Value<Table>) -> Result<Driver, Status> {
+            /// Makes the driver of a table. `Null` if the table or one of its functions is null.
+            pub fn from_table(table: &Value<Table>) -> Result<Driver, Status> {
                 let table = table.get()?;
                 Ok(Driver { context: table.context, $($name: table.$name.ok_or(Status::Null)?,)* })
             }

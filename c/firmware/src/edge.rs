@@ -2,8 +2,8 @@
 //! Objects in the memory of a caller in C, its pointers, and all that is done with them.
 //!
 //! [`Handle`], [`Input`] and their like are raw pointers as the ABI has them. Their fields are private and nothing here makes
-//! one, so that only a caller in C does, who owes what `wuzhikar.h` asks: behind a pointer that is not null stands what its
-//! type says, nobody writes what a call reads while it runs, and an object's memory is zeros, or what a start left there.
+//! one, so only a caller in C does, who owes what `wuzhikar.h` asks. A pointer that is not null leads to what its type says.
+//! Nobody writes what a call reads while it runs. An object's memory is zeros, or what a start left there.
 
 use crate::layout::Codes;
 use crate::status::{Answer, Status, told};

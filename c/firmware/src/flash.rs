@@ -35,8 +35,8 @@ pub struct Flash {
 pub struct Aligned(pub [u8; SLOT_BYTES]);
 
 impl Flash {
-    /// The flash of a table. `Null` where the table or a function of it is, `Pages` where there are not 2 to 8.
-    pub fn of(table: &Value<Table>) -> Result<Flash, Status> {
+    /// Makes the flash of a table. `Null` if the table or one of its functions is null, `Pages` if there are not 2 to 8.
+    pub fn from_table(table: &Value<Table>) -> Result<Flash, Status> {
         let Table { context, pages, read_slot: Some(read), program_slot: Some(program), erase_page: Some(erase) } =
             table.get()?
         else {

@@ -91,7 +91,7 @@ pub extern "C" fn wz_keyboard_start(
     pace: u16,
 ) -> c_int {
     keyboard.start(|memory| {
-        let flash = Flash::of(&flash)?;
+        let flash = Flash::from_table(&flash)?;
         let codes = checked(&layout)?;
         Ok(Keyboard { codes, device: start_in(memory, flash, codes, paced(pace)?)? })
     })

@@ -46,7 +46,7 @@ fn stored(done: Result<(), WriteError>) -> Answer {
 
 #[unsafe(no_mangle)]
 pub extern "C" fn wz_log_start(log: Handle<Log>, flash: Value<Table>) -> c_int {
-    log.start(|_| FlashLog::mount(Flash::of(&flash)?).map_err(|_| Status::Pages))
+    log.start(|_| FlashLog::mount(Flash::from_table(&flash)?).map_err(|_| Status::Pages))
 }
 
 #[unsafe(no_mangle)]

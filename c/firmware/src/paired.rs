@@ -22,7 +22,7 @@ pub struct UnitTable {
     erase_units: Option<Erase>,
 }
 
-/// Units by such a table, all of whose functions are there.
+/// Units, made of such a table with all its functions.
 pub struct Units {
     context: *mut c_void,
     pages: usize,
@@ -39,7 +39,7 @@ impl Kept for Paired {
 }
 
 impl Units {
-    fn of(table: &Value<UnitTable>) -> Result<Units, Status> {
+    fn from_table(table: &Value<UnitTable>) -> Result<Units, Status> {
         let UnitTable { context, pages, read_unit: Some(read), program_unit: Some(program), erase_units: Some(erase) } =
             table.get()?
         else {
@@ -72,8 +72,8 @@ impl EccFlash for Units {
     }
 }
 
-/// A call of the flash, for a slot that it has.
-fn on_slot(paired: Handle<Paired>, page: usize, slot: usize, call: impl FnOnce(&mut Paired) -> Answer) -> c_int {
+/// Makes a call of the flash for a slot, if the flash has this slot.
+fn call_for_slot(paired: Handle<Paired>, page: usize, slot: usize, call: impl FnOnce(&mut Paired) -> Answer) -> c_int {
     paired.call(|paired| if page < paired.pages() && slot < PAGE_SLOTS { call(paired) } else { Err(Status::Range) })
 }
 
@@ -83,12 +83,12 @@ fn done(done: Result<(), FlashFault>) -> Answer {
 
 #[unsafe(no_mangle)]
 pub extern "C" fn wz_paired_start(paired: Handle<Paired>, units: Value<UnitTable>) -> c_int {
-    paired.start(|_| Units::of(&units).map(PairedFlash::mount))
+    paired.start(|_| Units::from_table(&units).map(PairedFlash::mount))
 }
 
 #[unsafe(no_mangle)]
 pub extern "C" fn wz_paired_format(paired: Handle<Paired>, units: Value<UnitTable>) -> c_int {
-    paired.start(|_| PairedFlash::format(Units::of(&units)?).map_err(|FlashFault| Status::Fault))
+    paired.start(|_| PairedFlash::format(Units::from_table(&units)?).map_err(|FlashFault| Status::Fault))
 }
 
 #[unsafe(no_mangle)]
@@ -96,7 +96,7 @@ pub extern "C" fn wz_paired_read_slot(paired: Handle<Paired>, page: usize, slot:
     let Ok(room) = bytes.room(SLOT_BYTES) else { return };
     // A slot that is neither Free nor a word, where the flash is not read.
     let mut read = [0; SLOT_BYTES];
-    on_slot(paired, page, slot, |paired| {
+    call_for_slot(paired, page, slot, |paired| {
         read = paired.read_slot(page, slot);
         Ok(0)
     });
@@ -110,10 +110,10 @@ pub extern "C" fn wz_paired_program_slot(
     slot: usize,
     bytes: Value<[u8; SLOT_BYTES]>,
 ) -> c_int {
-    on_slot(paired, page, slot, |paired| done(paired.program_slot(page, slot, bytes.get()?)))
+    call_for_slot(paired, page, slot, |paired| done(paired.program_slot(page, slot, bytes.get()?)))
 }
 
 #[unsafe(no_mangle)]
 pub extern "C" fn wz_paired_erase_page(paired: Handle<Paired>, page: usize) -> c_int {
-    on_slot(paired, page, 0, |paired| done(paired.erase_page(page)))
+    call_for_slot(paired, page, 0, |paired| done(paired.erase_page(page)))
 }

@@ -58,7 +58,7 @@ fn bytes_of(bytes: &Input<u8>, length: usize) -> Result<&[u8], Status> {
 
 #[unsafe(no_mangle)]
 pub extern "C" fn wz_settings_start(settings: Handle<Settings>, flash: Given<Table>) -> c_int {
-    settings.start(|_| FlashSettings::mount(Flash::of(&flash)?).map_err(|_| Status::Pages))
+    settings.start(|_| FlashSettings::mount(Flash::from_table(&flash)?).map_err(|_| Status::Pages))
 }
 
 #[unsafe(no_mangle)]
@@ -118,5 +118,7 @@ pub extern "C" fn wz_settings_room_left(settings: Handle<Settings>) -> c_int {
 
 #[unsafe(no_mangle)]
 pub extern "C" fn wz_settings_format(settings: Handle<Settings>, flash: Given<Table>) -> c_int {
-    settings.start(|_| FlashSettings::format(Flash::of(&flash)?).map(|(settings, _)| settings).map_err(|_| Status::Fault))
+    settings.start(|_| {
+        FlashSettings::format(Flash::from_table(&flash)?).map(|(settings, _)| settings).map_err(|_| Status::Fault)
+    })
 }

@@ -4,7 +4,7 @@
 //! A call looks at its pointers and lengths, then at its handle, and writes once nothing is left to be refused.
 
 use crate::edge::{Input, Output, Outputs};
-use crate::handles::{Entry, Error, TABLE, both, kind_of, number_of, of, tell, told};
+use crate::handles::{Entry, Error, TABLE, both, kind_of, number_of, tell, told, with_descriptor};
 use crate::names;
 use crate::status::Status;
 use core::ffi::c_char;
@@ -99,7 +99,7 @@ pub extern "C" fn hidr_close(handle: u64) -> Status {
 pub extern "C" fn hidr_field_count(descriptor: u64, count: Output<usize>) -> Status {
     told(|| {
         let count = count.place()?;
-        count.put(of(descriptor, |descriptor| Ok(descriptor.fields().len()))?);
+        count.put(with_descriptor(descriptor, |descriptor| Ok(descriptor.fields().len()))?);
         Ok(())
     })
 }
@@ -108,7 +108,9 @@ pub extern "C" fn hidr_field_count(descriptor: u64, count: Output<usize>) -> Sta
 pub extern "C" fn hidr_field_at(descriptor: u64, field: usize, into: Output<FieldOut>) -> Status {
     told(|| {
         let into = into.place()?;
-        into.put(of(descriptor, |descriptor| descriptor.fields().get(field).map(FieldOut::from).ok_or(Status::Absent))?);
+        into.put(with_descriptor(descriptor, |descriptor| {
+            descriptor.fields().get(field).map(FieldOut::from).ok_or(Status::Absent)
+        })?);
         Ok(())
     })
 }
@@ -123,7 +125,7 @@ pub extern "C" fn hidr_ranges(
 ) -> Status {
     told(|| {
         let (count, into) = (count.place()?, into.places(room)?);
-        of(descriptor, |descriptor| {
+        with_descriptor(descriptor, |descriptor| {
             if field >= descriptor.fields().len() {
                 return Err(Status::Absent);
             }
@@ -139,7 +141,7 @@ pub extern "C" fn hidr_ranges(
 pub extern "C" fn hidr_usage_at(descriptor: u64, field: usize, place: usize, usage: Output<u32>) -> Status {
     told(|| {
         let usage = usage.place()?;
-        usage.put(of(descriptor, |descriptor| descriptor.usage(field, place).ok_or(Status::Absent))?);
+        usage.put(with_descriptor(descriptor, |descriptor| descriptor.usage(field, place).ok_or(Status::Absent))?);
         Ok(())
     })
 }
@@ -148,7 +150,7 @@ pub extern "C" fn hidr_usage_at(descriptor: u64, field: usize, place: usize, usa
 pub extern "C" fn hidr_uses_ids(descriptor: u64, uses: Output<u8>) -> Status {
     told(|| {
         let uses = uses.place()?;
-        uses.put(of(descriptor, |descriptor| Ok(descriptor.uses_ids().into()))?);
+        uses.put(with_descriptor(descriptor, |descriptor| Ok(descriptor.uses_ids().into()))?);
         Ok(())
     })
 }
@@ -157,7 +159,7 @@ pub extern "C" fn hidr_uses_ids(descriptor: u64, uses: Output<u8>) -> Status {
 pub extern "C" fn hidr_report_length(descriptor: u64, kind: u8, id: u8, bytes: Output<usize>) -> Status {
     told(|| {
         let bytes = bytes.place()?;
-        bytes.put(of(descriptor, |descriptor| {
+        bytes.put(with_descriptor(descriptor, |descriptor| {
             kind_of(kind).and_then(|kind| descriptor.report_len(kind, id)).ok_or(Status::Absent)
         })?);
         Ok(())
@@ -176,7 +178,7 @@ pub extern "C" fn hidr_extract(
     told(|| {
         let count = count.place()?;
         let (into, report) = both(into.places(room), report.bytes(length))?;
-        let found = of(descriptor, |descriptor| Ok(extract(descriptor, report)?))?;
+        let found = with_descriptor(descriptor, |descriptor| Ok(extract(descriptor, report)?))?;
         count.put(found.len());
         into.put(found.iter().map(|&Found { usage, value }| FoundOut { value, usage }));
         Ok(())
@@ -195,7 +197,7 @@ pub extern "C" fn hidr_pressed(
     told(|| {
         let count = count.place()?;
         let (into, report) = both(into.places(room), report.bytes(length))?;
-        let on = of(descriptor, |descriptor| Ok(pressed(&extract(descriptor, report)?)?))?;
+        let on = with_descriptor(descriptor, |descriptor| Ok(pressed(&extract(descriptor, report)?)?))?;
         count.put(on.len());
         into.put(on.iter().copied());
         Ok(())
@@ -204,12 +206,12 @@ pub extern "C" fn hidr_pressed(
 
 #[unsafe(no_mangle)]
 pub extern "C" fn hidr_fault_name(fault: u32) -> *const c_char {
-    names::of_fault(fault).as_ptr()
+    names::fault_name(fault).as_ptr()
 }
 
 #[unsafe(no_mangle)]
 pub extern "C" fn hidr_status_name(status: i32) -> *const c_char {
-    names::of_status(status).as_ptr()
+    names::status_name(status).as_ptr()
 }
 
 impl Range {

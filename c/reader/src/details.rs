@@ -3,7 +3,7 @@
 
 use crate::calls::Range;
 use crate::edge::{Input, Output, Outputs, Places};
-use crate::handles::{Entry, Error, TABLE, both, kind_of, number_of, of_reader, put_list, put_of, tell, told};
+use crate::handles::{Entry, Error, TABLE, both, kind_of, number_of, put_from_reader, put_list, tell, told, with_reader};
 use crate::status::Status;
 use core::ffi::c_char;
 use core::fmt;
@@ -127,12 +127,12 @@ fn refused(found: ReaderError, error: Output<Error>) -> Status {
 
 #[unsafe(no_mangle)]
 pub extern "C" fn hidr_detail_count(reader: u64, count: Output<usize>) -> Status {
-    put_of(reader, count, |reader| Ok(reader.details().fields.len()))
+    put_from_reader(reader, count, |reader| Ok(reader.details().fields.len()))
 }
 
 #[unsafe(no_mangle)]
 pub extern "C" fn hidr_detail_at(reader: u64, item: usize, into: Output<DetailOut>) -> Status {
-    put_of(reader, into, |reader| detail_out(reader, item).ok_or(Status::Absent))
+    put_from_reader(reader, into, |reader| detail_out(reader, item).ok_or(Status::Absent))
 }
 
 fn detail_out(reader: &Reader, item: usize) -> Option<DetailOut> {
@@ -162,7 +162,9 @@ fn detail_out(reader: &Reader, item: usize) -> Option<DetailOut> {
 
 #[unsafe(no_mangle)]
 pub extern "C" fn hidr_detail_of(reader: u64, field: usize, item: Output<usize>) -> Status {
-    put_of(reader, item, |reader| reader.details().data_fields().nth(field).map(|placed| placed.place).ok_or(Status::Absent))
+    put_from_reader(reader, item, |reader| {
+        reader.details().data_fields().nth(field).map(|placed| placed.place).ok_or(Status::Absent)
+    })
 }
 
 #[unsafe(no_mangle)]
@@ -175,12 +177,12 @@ pub extern "C" fn hidr_around(reader: u64, item: usize, into: Outputs<u32>, room
 
 #[unsafe(no_mangle)]
 pub extern "C" fn hidr_collection_count(reader: u64, count: Output<usize>) -> Status {
-    put_of(reader, count, |reader| Ok(reader.details().collections.len()))
+    put_from_reader(reader, count, |reader| Ok(reader.details().collections.len()))
 }
 
 #[unsafe(no_mangle)]
 pub extern "C" fn hidr_collection_at(reader: u64, collection: usize, into: Output<CollectionOut>) -> Status {
-    put_of(reader, into, |reader| {
+    put_from_reader(reader, into, |reader| {
         let found = reader.details().collections.get(collection).ok_or(Status::Absent)?;
         Ok(CollectionOut {
             offset: found.offset as u64,
@@ -317,16 +319,16 @@ pub extern "C" fn hidr_collection_designators(
     })
 }
 
-/// What a call makes of a data item of a reader.
-fn of_item<R>(reader: u64, item: usize, call: impl FnOnce(&Detail) -> Result<R, Status>) -> Result<R, Status> {
-    of_reader(reader, |reader| call(reader.details().fields.get(item).ok_or(Status::Absent)?))
+/// Makes a call on a data item of a reader.
+fn with_item<R>(reader: u64, item: usize, call: impl FnOnce(&Detail) -> Result<R, Status>) -> Result<R, Status> {
+    with_reader(reader, |reader| call(reader.details().fields.get(item).ok_or(Status::Absent)?))
 }
 
 #[unsafe(no_mangle)]
 pub extern "C" fn hidr_unit_exponents(reader: u64, item: usize, into: Outputs<i8>) -> Status {
     told(|| {
         let into = into.places(6)?;
-        into.put(of_item(reader, item, |detail| Ok(detail.unit_exponents()?))?.into_iter());
+        into.put(with_item(reader, item, |detail| Ok(detail.unit_exponents()?))?.into_iter());
         Ok(())
     })
 }
@@ -341,7 +343,7 @@ pub extern "C" fn hidr_unit_name(
 ) -> Status {
     told(|| {
         let (length, into) = (length.place()?, into.places(room)?);
-        let name = of_item(reader, item, |detail| Ok(detail.unit_name().unwrap_or("")))?;
+        let name = with_item(reader, item, |detail| Ok(detail.unit_name().unwrap_or("")))?;
         length.put(put_text(into, |out| fmt::Write::write_str(out, name)));
         Ok(())
     })
@@ -357,7 +359,7 @@ pub extern "C" fn hidr_collection_name(
 ) -> Status {
     told(|| {
         let (length, into) = (length.place()?, into.places(room)?);
-        let name = of_reader(reader, |reader| {
+        let name = with_reader(reader, |reader| {
             let found = reader.details().collections.get(collection).ok_or(Status::Absent)?;
             Ok(found.kind_name().unwrap_or(""))
         })?;

@@ -2,9 +2,9 @@
 //! Pointers that C hands over, and all that is done with them.
 //!
 //! [`Input`], [`Output`] and [`Outputs`] are raw pointers as the ABI has them. Their fields are private and nothing here
-//! makes one, so that only a caller in C does, who owes what `hid_reader.h` asks: behind a pointer that is not null stand as
-//! many values as its count says, to read or to write, and nobody else writes them during the call. Nothing is asked of
-//! their alignment, and no pointer is kept.
+//! makes one, so only a caller in C does, who owes what `hid_reader.h` asks. A pointer that is not null leads to as many values
+//! as its count says, to read or to write, and nobody else writes them during the call. Nothing is asked of their alignment,
+//! and no pointer is kept.
 
 use crate::status::Status;
 use core::marker::PhantomData;
@@ -86,7 +86,7 @@ pub struct Place<T>(NonNull<T>);
 
 impl<T: Copy> Place<T> {
     pub fn put(self, value: T) {
-        // SAFETY: it came from an `Output`, behind which the caller owes room for one value.
+        // SAFETY: it came from an `Output`, whose pointer leads to room for one value, as the caller owes.
         unsafe { self.0.write_unaligned(value) }
     }
 }

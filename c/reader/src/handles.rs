@@ -1,5 +1,5 @@
 // SPDX-License-Identifier: MIT OR Apache-2.0
-//! What handles stand for, and what all calls share.
+//! What handles name, and what all calls share.
 
 use crate::edge::{Output, Outputs, Place, Places};
 use crate::status::Status;
@@ -12,8 +12,8 @@ const HANDLES: usize = 256;
 
 pub static TABLE: Table<Entry, HANDLES> = Table::new();
 
-/// What a handle stands for.
-#[allow(clippy::large_enum_variant)] // it stands in the table itself, so that no memory has to be there
+/// What a handle names.
+#[allow(clippy::large_enum_variant)] // it lies in the table itself, so that it needs no other memory
 pub enum Entry {
     Parser(Parser),
     /// A parser that has ended with a fault, which it answers again.
@@ -72,8 +72,8 @@ pub fn told(call: impl FnOnce() -> Result<(), Status>) -> Status {
     }
 }
 
-/// What a call makes of the descriptor that a handle stands for, its own or that of a reader.
-pub fn of<R>(handle: u64, call: impl FnOnce(&Descriptor) -> Result<R, Status>) -> Result<R, Status> {
+/// Makes a call on the descriptor of a handle, which may be that of a reader.
+pub fn with_descriptor<R>(handle: u64, call: impl FnOnce(&Descriptor) -> Result<R, Status>) -> Result<R, Status> {
     TABLE.with(handle, |entry| match entry {
         Entry::Descriptor(descriptor) => call(descriptor),
         Entry::Reader(reader) => call(reader.descriptor()),
@@ -81,19 +81,19 @@ pub fn of<R>(handle: u64, call: impl FnOnce(&Descriptor) -> Result<R, Status>) -
     })
 }
 
-/// What a call makes of the reader that a handle stands for.
-pub fn of_reader<R>(handle: u64, call: impl FnOnce(&Reader) -> Result<R, Status>) -> Result<R, Status> {
+/// Makes a call on the reader of a handle.
+pub fn with_reader<R>(handle: u64, call: impl FnOnce(&Reader) -> Result<R, Status>) -> Result<R, Status> {
     TABLE.with(handle, |entry| match entry {
         Entry::Reader(reader) => call(reader),
         Entry::Parser(_) | Entry::Refused(_) | Entry::Descriptor(_) => Err(Status::WrongKind),
     })
 }
 
-/// Puts what a call makes of a reader.
-pub fn put_of<R: Copy>(reader: u64, into: Output<R>, make: impl FnOnce(&Reader) -> Result<R, Status>) -> Status {
+/// Writes to the caller's memory what a call makes of a reader.
+pub fn put_from_reader<R: Copy>(reader: u64, into: Output<R>, make: impl FnOnce(&Reader) -> Result<R, Status>) -> Status {
     told(|| {
         let into = into.place()?;
-        into.put(of_reader(reader, make)?);
+        into.put(with_reader(reader, make)?);
         Ok(())
     })
 }
@@ -106,7 +106,7 @@ pub fn put_list<T: Copy>(
 ) -> Status {
     told(|| {
         let (count, into) = (count.place()?, into.places(room)?);
-        count.put(of_reader(reader, |reader| put(reader, into))?);
+        count.put(with_reader(reader, |reader| put(reader, into))?);
         Ok(())
     })
 }
@@ -121,7 +121,7 @@ pub fn put_made<T: Copy>(
     told(|| {
         let count = count.place()?;
         let (into, given) = both(into.places(room), given)?;
-        let made = of_reader(reader, |reader| make(reader, given))?;
+        let made = with_reader(reader, |reader| make(reader, given))?;
         count.put(into.put_all(made.into_iter()));
         Ok(())
     })

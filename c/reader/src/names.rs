@@ -22,13 +22,13 @@ names!(STATUSES, Status: Ok Null Length NoHandle Closed WrongKind Full NoMemory 
     UnknownReport OtherId NoUnused UnknownControl Twice NoNull TooLarge OutOfRange NoRoom EqualLimits InvertedLimits
     ReservedDigit NoSystem ReservedSystem VendorSystem Overlap NoStep);
 
-/// The name of the fault with this number, 1 to 17; empty for another number.
-pub fn of_fault(number: u32) -> &'static CStr {
+/// Returns the name of the fault with this number, 1 to 17; empty for another number.
+pub fn fault_name(number: u32) -> &'static CStr {
     name(FAULTS, |fault| u32::from(fault.number()) == number)
 }
 
-/// The name of the status with this number, 0 to 29; empty for another number.
-pub fn of_status(number: i32) -> &'static CStr {
+/// Returns the name of the status with this number, 0 to 29; empty for another number.
+pub fn status_name(number: i32) -> &'static CStr {
     name(STATUSES, |status| status as i32 == number)
 }
 
@@ -51,18 +51,18 @@ mod tests {
     fn each_number_has_the_name_of_the_source() {
         assert_eq!((FAULTS.len(), STATUSES.len()), (17, 30));
         for (fault, name) in FAULTS {
-            assert_eq!(of_fault(fault.number().into()), *name);
+            assert_eq!(fault_name(fault.number().into()), *name);
             assert_eq!(name.to_str().unwrap(), format!("{fault:?}"));
         }
         for (status, name) in STATUSES {
-            assert_eq!(of_status(*status as i32), *name);
+            assert_eq!(status_name(*status as i32), *name);
             assert_eq!(name.to_str().unwrap(), format!("{status:?}"));
         }
         for number in [0, 18, 255, 273, u32::MAX] {
-            assert_eq!(of_fault(number), c"");
+            assert_eq!(fault_name(number), c"");
         }
         for number in [-1, 30, 256, i32::MIN, i32::MAX] {
-            assert_eq!(of_status(number), c"");
+            assert_eq!(status_name(number), c"");
         }
     }
 }

@@ -2,7 +2,7 @@
 //! The calls of `hid_reader.h` that write whatever the extents are, and that take all controls of one usage.
 
 use crate::edge::{Input, Output, Outputs, Shared};
-use crate::handles::{both, kind_of, kind_of_report, of_reader, put_made, told};
+use crate::handles::{both, kind_of, kind_of_report, put_made, told, with_reader};
 use crate::status::Status;
 use crate::values::{bytes_at, write};
 use wuzhikar_hid::{Asked, RawError, Setting, Target};
@@ -27,7 +27,7 @@ pub extern "C" fn hidr_put_raw(
 ) -> Status {
     told(|| {
         let report = report.bytes(length)?;
-        of_reader(reader, |reader| {
+        with_reader(reader, |reader| {
             let kind = kind_of_report(kind, report)?;
             reader.put_raw(kind, report, field, place, number).map_err(why)
         })
@@ -46,7 +46,7 @@ pub extern "C" fn hidr_put_bytes(
 ) -> Status {
     told(|| {
         let (bytes, report) = both(bytes.owned(count), report.bytes(length))?;
-        of_reader(reader, |reader| {
+        with_reader(reader, |reader| {
             let kind = kind_of_report(kind, report)?;
             reader.put_bytes(kind, report, field, &bytes).map_err(why)
         })

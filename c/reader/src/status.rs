@@ -129,8 +129,8 @@ impl From<NoUnit> for Status {
 }
 
 impl Status {
-    /// The status of a report that is not written, and the number of the setting or field that it falls on.
-    pub fn of_write(error: WriteError) -> (Status, Option<usize>) {
+    /// Returns the status of a report that is not written, and the number of the setting or field at fault.
+    pub fn from_write_error(error: WriteError) -> (Status, Option<usize>) {
         match error {
             WriteError::UnknownReport => (Status::UnknownReport, None),
             WriteError::Short => (Status::ShortReport, None),

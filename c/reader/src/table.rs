@@ -1,9 +1,9 @@
 // SPDX-License-Identifier: MIT OR Apache-2.0
-//! Handles: numbers that stand for what a table keeps.
+//! Handles: numbers that name what a table keeps.
 //!
-//! A handle is a slot of the table and a generation, which tells the values that the slot had one after the other apart. No
-//! handle is given twice, so that one that was closed is told for ever, without a look at what it stood for. A slot whose
-//! generations are used up is not used any more.
+//! A handle is a slot of the table and a generation, which tells apart the values that the slot had one after the other. No
+//! handle is given twice, so a closed one is recognized for ever, without a look at what it named. A slot whose generations
+//! are used up is not used any more.
 
 use crate::status::Status;
 use std::sync::{Mutex, MutexGuard, PoisonError};
@@ -55,7 +55,7 @@ impl<T, const N: usize> Table<T, N> {
         Ok(handle(slot, kept.generation))
     }
 
-    /// What a call makes of the value. `NoHandle` and `Closed` as the handle is.
+    /// Makes a call on the value of a handle. `NoHandle` if it was never given, `Closed` if it was closed.
     pub fn with<R>(&self, handle: u64, call: impl FnOnce(&mut T) -> Result<R, Status>) -> Result<R, Status> {
         let (mut kept, _) = self.find(handle)?;
         kept.value.as_mut().map_or(Err(Status::Closed), call)
@@ -88,7 +88,7 @@ impl<T, const N: usize> Table<T, N> {
         Ok(value)
     }
 
-    /// The slot of a handle, which is held, and its number. A slot whose value this handle stands for has one, or was closed.
+    /// Locks the slot of a handle, and returns it with its number. `NoHandle` if the handle was never given, `Closed` if it was closed.
     fn find(&self, handle: u64) -> Result<(MutexGuard<'_, Slot<T>>, u16), Status> {
         let slot = (handle & ((1 << SLOT_BITS) - 1)) as u16;
         let generation = handle >> SLOT_BITS;

@@ -3,7 +3,7 @@
 
 use crate::details::{place, put_text};
 use crate::edge::{Input, Output, Outputs};
-use crate::handles::{both, kind_of, kind_of_report, of_reader, put_made, put_of, told};
+use crate::handles::{both, kind_of, kind_of_report, put_from_reader, put_made, told, with_reader};
 use crate::status::Status;
 use core::ffi::c_char;
 use core::mem::offset_of;
@@ -75,13 +75,13 @@ pub fn write(
         let length = length.place()?;
         let bytes = settings.bytes(count.saturating_mul(size));
         let ((into, bytes), onto) = both(both(into.places(room), bytes), onto.bytes(onto_length))?;
-        let report = of_reader(reader, |reader| {
+        let report = with_reader(reader, |reader| {
             let kind = kind_of(kind).ok_or(Status::UnknownReport)?;
             let mut settings = Vec::new();
             settings.try_reserve_exact(count).map_err(|_| Status::NoMemory)?;
             settings.extend(bytes.chunks_exact(size).enumerate().map(read));
             reader.write(kind, id, &settings, (!onto.is_empty()).then_some(onto)).map_err(|error| {
-                let (status, number) = Status::of_write(error);
+                let (status, number) = Status::from_write_error(error);
                 if let (Some(number), Some(place)) = (number, which.place_if_any()) {
                     place.put(number);
                 }
@@ -107,7 +107,7 @@ pub extern "C" fn hidr_read(
     told(|| {
         let count = count.place()?;
         let (into, report) = both(into.places(room), report.bytes(length))?;
-        let (told, left) = of_reader(reader, |reader| {
+        let (told, left) = with_reader(reader, |reader| {
             if into.overlap(report) {
                 return Err(Status::Overlap);
             }
@@ -160,7 +160,7 @@ pub extern "C" fn hidr_changes(
         let counts = both(pressed_count.place(), released_count.place())?;
         let into = both(pressed.places(pressed_room), released.places(released_room));
         let (into, (before, now)) = both(into, both(before.bytes(before_length), now.bytes(now_length)))?;
-        let changed = of_reader(reader, |reader| Ok(reader.changes(kind_of_report(kind, before)?, before, now)?))?;
+        let changed = with_reader(reader, |reader| Ok(reader.changes(kind_of_report(kind, before)?, before, now)?))?;
         counts.0.put(into.0.put_all(changed.pressed.into_iter()));
         counts.1.put(into.1.put_all(changed.released.into_iter()));
         Ok(())
@@ -174,7 +174,7 @@ fn detail_of(reader: &Reader, field: usize) -> Result<&Detail, Status> {
 
 #[unsafe(no_mangle)]
 pub extern "C" fn hidr_physical(reader: u64, field: usize, raw: i64, into: Output<Fraction>) -> Status {
-    put_of(reader, into, |reader| {
+    put_from_reader(reader, into, |reader| {
         let exact = detail_of(reader, field)?.physical_value(raw)?;
         let small = |number: i128| i64::try_from(number).map_err(|_| Status::TooLarge);
         Ok(Fraction { numerator: small(exact.numerator)?, denominator: small(exact.denominator)?, exponent: exact.exponent })
@@ -183,7 +183,7 @@ pub extern "C" fn hidr_physical(reader: u64, field: usize, raw: i64, into: Outpu
 
 #[unsafe(no_mangle)]
 pub extern "C" fn hidr_value_of(reader: u64, field: usize, numerator: i64, denominator: u64, raw: Output<i64>) -> Status {
-    put_of(reader, raw, |reader| Ok(detail_of(reader, field)?.value_of(numerator, denominator)?))
+    put_from_reader(reader, raw, |reader| Ok(detail_of(reader, field)?.value_of(numerator, denominator)?))
 }
 
 #[unsafe(no_mangle)]
@@ -198,7 +198,7 @@ pub extern "C" fn hidr_decimal(
 ) -> Status {
     told(|| {
         let (length, into) = (length.place()?, into.places(room)?);
-        let exact = of_reader(reader, |reader| Ok(detail_of(reader, field)?.physical_value(raw)?))?;
+        let exact = with_reader(reader, |reader| Ok(detail_of(reader, field)?.physical_value(raw)?))?;
         length.put(put_text(into, |out| exact.write_decimal(digits, out)));
         Ok(())
     })

@@ -2,7 +2,7 @@
 //! The calls of `hid_reader.h` that say what a device is, in a report of it.
 
 use crate::edge::{Input, Output, Outputs, Place};
-use crate::handles::{both, of_reader, put_made, told};
+use crate::handles::{both, put_made, told, with_reader};
 use crate::status::Status;
 use wuzhikar_hid::{Axis, Contact, Pad, Pen, Reader, ReadingError};
 
@@ -158,7 +158,7 @@ fn one<T: Copy>(
 ) -> Status {
     told(|| {
         let (into, report): (Place<T>, &[u8]) = both(into.place(), report)?;
-        into.put(of_reader(reader, |reader| Ok(view(reader, report)?))?);
+        into.put(with_reader(reader, |reader| Ok(view(reader, report)?))?);
         Ok(())
     })
 }

@@ -108,7 +108,7 @@ static void handles(void) {
     each_answers(0, HIDR_NO_HANDLE);
     each_answers(parser, HIDR_WRONG_KIND);
     each_answers(descriptor, HIDR_WRONG_KIND);
-    /* A reader stands for its descriptor, and is no parser. */
+    /* A reader serves as its descriptor, and is no parser. */
     ANSWERS(HIDR_OK, hidr_field_count(reader, &count));
     CHECK(count == 7);
     ANSWERS(HIDR_WRONG_KIND, hidr_parser_feed(reader, TEXT, 1, &error));
@@ -241,7 +241,7 @@ static void what_is_absent(hidr_reader r) {
     UNTOUCHED(to);
 }
 
-/* Units and extents without a value in its unit. */
+/* Units and extents that give no value in a unit. */
 static void no_units(hidr_reader r) {
     struct outputs to;
     FILL(to);

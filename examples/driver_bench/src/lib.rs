@@ -1,10 +1,10 @@
 // SPDX-License-Identifier: MIT OR Apache-2.0
 //! The exported keyboard behind a C ABI, for the test of a host driver. `bench.h` says what each call answers.
 //!
-//! `device` is the keyboard beside its flash. Here stands the edge alone: what C hands over is looked at, and refused
-//! before the device sees it. Every function that takes a bench owes the same to it: **Safety**: a bench is null or one
-//! that `bench_new` gave and `bench_free` did not take, and no other call has it at the same time; behind a pointer that
-//! is not null stand as many values as its count says, and nobody else writes them during the call.
+//! `device` is the keyboard beside its flash. This file is the edge alone: it checks what C hands over, and refuses it before
+//! the device sees it. **Safety** of each function that takes a bench: the bench is null, or `bench_new` returned it and
+//! `bench_free` did not take it. No other call has it at the same time. A pointer that is not null leads to as many values as
+//! its count says, and nobody else writes them during the call.
 #![deny(unsafe_op_in_unsafe_fn)]
 #![allow(clippy::missing_safety_doc)] // said once, above
 

@@ -105,9 +105,9 @@ impl Host {
     }
 }
 
-/// A flash whose first page is full, and whose second one must be erased. Each of the 384 entries has another code than its first:
-/// z, and y on the key z.
-fn full() -> SimFlash {
+/// Makes a flash whose first page is full, and whose second one must be erased. Each of the 384 entries differs from its default:
+/// it has z, and the key z has y.
+fn full_flash() -> SimFlash {
     let entries: Vec<u32> = (0..4).flat_map(|layer| (0..96).map(move |key| layer << 24 | key << 16)).collect();
     let code = |entry: u32| if entry == 25 << 16 { 0x1c } else { 0x1d };
     let words = entries.iter().cycle().take(511).map(|entry| 0x1000_0000 | entry | code(*entry));
@@ -213,7 +213,7 @@ fn what_is_accepted_is_in_the_flash_and_the_rest_is_not() {
 
 #[test]
 fn the_longest_command_is_accepted() {
-    let mut host = Host::on(full());
+    let mut host = Host::on(full_flash());
     assert_eq!((host.code(0, 0), host.code(3, 95)), ([0x1d, 0], [0x1d, 0]));
     assert_eq!(host.control(SET_FEATURE, &[3, 1, 0, 0, 5, 0]), Outcome::Accepted(vec![]));
     let mut host = Host::on(host.class.into_keyboard().into_flash());

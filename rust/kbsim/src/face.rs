@@ -13,7 +13,8 @@ use wuzhikar_reader::AllocError;
 ///
 /// # Errors
 ///
-/// A script that can't be run: its fault is printed in place of all lines, and returned.
+/// A fault of the script is printed in place of all lines, and returned. `Memory` may also come after printed lines. `Output`
+/// prints nothing, nor does `PageCount`, for which nothing is read.
 pub fn run_script<R: Read, W: Write>(pages: usize, reader: &mut R, writer: &mut W) -> Result<(), RunError> {
     kbsim::run_script((), pages, reader, writer)
 }

@@ -62,7 +62,7 @@ impl Given {
 
 impl Command {
     fn read(words: &[&OsStr]) -> Result<Command, String> {
-        // A character that stands for what is no text is part of no number, code or command.
+        // The replacement character, for bytes that are no text, is part of no number, code or command.
         let texts: Vec<_> = words.iter().map(|word| word.to_string_lossy()).collect();
         let texts: Vec<&str> = texts.iter().map(|text| &text[..]).collect();
         Ok(match texts[..] {
@@ -116,7 +116,7 @@ fn entry(layer: &str, key: &str) -> Result<Entry, String> {
     let number = |text: &str| if text.starts_with('+') { None } else { text.parse().ok() };
     number(layer)
         .zip(number(key))
-        .and_then(|(layer, key)| Entry::of(layer, key))
+        .and_then(|(layer, key)| Entry::from_numbers(layer, key))
         .ok_or_else(|| format!("layer {layer} (0 to 3), key {key} (0 to 95) is no entry"))
 }
 

@@ -112,8 +112,8 @@ fn once<'d, T: Deserialize<'d>, A: MapAccess<'d>>(
 }
 
 impl Keymap {
-    /// All codes, by rising layer and key.
-    pub fn of(codes: Vec<Code>) -> Keymap {
+    /// Makes a keymap of all codes, by rising layer and key.
+    pub fn from_codes(codes: Vec<Code>) -> Keymap {
         assert_eq!(codes.len(), LAYERS * KEYS);
         Keymap { codes }
     }
@@ -148,10 +148,10 @@ impl Keymap {
                 codes.push(code(text).ok_or_else(|| FileError::Code(layer, key, text.clone()))?);
             }
         }
-        Ok(Keymap::of(codes))
+        Ok(Keymap::from_codes(codes))
     }
 
-    /// The file, with a name for people where there is one.
+    /// Returns the text of the file, with a name for people if there is one.
     pub fn write(&self, name: Option<&str>) -> String {
         let layers: Vec<_> = self.codes.chunks(KEYS).map(layer_text).collect();
         let name = name.map_or(String::new(), |name| format!("  \"name\": {},\n", serde_json::Value::from(name)));

@@ -78,7 +78,7 @@ impl Features for Hidraw {
 }
 
 impl Hidraw {
-    /// The report descriptor. (Linux gives none of 4,096 bytes.)
+    /// Reads the report descriptor. (hidraw gives at most 4,095 bytes.)
     fn descriptor(&self) -> io::Result<Vec<u8>> {
         let mut length: c_int = 0;
         system::make(&self.0, HIDIOCGRDESCSIZE, &mut length)?;

@@ -49,7 +49,7 @@ pub enum Error {
     /// The file can't be read, or is no keymap.
     Read(PathBuf, io::Error),
     File(PathBuf, FileError),
-    /// A load ended early, behind so many of so many entries.
+    /// A load ended early, after so many of so many entries.
     Load(usize, usize, Box<Error>),
 }
 
@@ -113,14 +113,14 @@ pub struct Entry {
 }
 
 impl Entry {
-    /// An entry by its numbers.
-    pub fn of(layer: u8, key: u8) -> Option<Entry> {
+    /// Makes an entry of its numbers.
+    pub fn from_numbers(layer: u8, key: u8) -> Option<Entry> {
         Some(Entry { layer: LayerNo::read(layer).ok()?, key: KeyNo::read(key).ok()? })
     }
 
     /// All entries, by rising layer and key.
     pub fn all() -> impl Iterator<Item = Entry> {
-        (0..LAYERS as u8).flat_map(|layer| (0..KEYS as u8).filter_map(move |key| Entry::of(layer, key)))
+        (0..LAYERS as u8).flat_map(|layer| (0..KEYS as u8).filter_map(move |key| Entry::from_numbers(layer, key)))
     }
 }
 
@@ -136,7 +136,7 @@ const FIRST_PAUSE: Duration = Duration::from_millis(50);
 const LONGEST_PAUSE: Duration = Duration::from_millis(500);
 const PATIENCE: Duration = Duration::from_secs(5);
 
-/// Sends a report. A stall may only say "later" (SECURITY.md, pace), so it is sent again.
+/// Sends a report. A stall may only mean "later" (SECURITY.md, pace), so a stalled report is sent again.
 fn send(features: &mut impl Features, report: [u8; REPORT]) -> Result<(), Error> {
     let (mut pause, mut waited) = (FIRST_PAUSE, Duration::ZERO);
     loop {
@@ -174,7 +174,7 @@ pub fn reset(features: &mut impl Features, layer: Option<LayerNo>) -> Result<(),
 
 /// The whole keymap.
 pub fn dump(features: &mut impl Features) -> Result<Keymap, Error> {
-    Entry::all().map(|entry| get(features, entry)).collect::<Result<Vec<_>, _>>().map(Keymap::of)
+    Entry::all().map(|entry| get(features, entry)).collect::<Result<Vec<_>, _>>().map(Keymap::from_codes)
 }
 
 /// Makes the keymap this one, and answers how many entries differed. The first that is not set ends it.

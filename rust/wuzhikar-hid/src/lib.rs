@@ -33,7 +33,7 @@
 //! ```
 //!
 //! A usage is a 32-bit number: the usage page in the high half, the usage ID in the low half. X is `0x0001_0030`, which is
-//! [`usages::generic_desktop::X`], and button 3 `0x0009_0003`. An ID of 0 stands for no control: an Array whose places are free
+//! [`usages::generic_desktop::X`], and button 3 `0x0009_0003`. An ID of 0 names no control: an Array whose places are free
 //! mostly names such a usage.
 //!
 //! On Linux the bytes of a device are the file `/sys/class/hidraw/hidraw0/device/report_descriptor`. Each read of
@@ -226,11 +226,11 @@
 //!
 //! - the fields of [`Details`], its collections and its calls; the bits, extents and units of a [`Detail`]
 //! - the value in its unit
-//! - all that a [`Reader`] keeps, reads and writes
+//! - the values of a report, and a report of settings, which [`Reader`] gets from calls of `parts`
 //!
-//! **All else, names included, is written by hand: tested, not proved.** Tests compare it with a program in another
-//! language over some ten thousand descriptors. Any bytes may come: nothing panics on them. A call that says nothing of
-//! memory takes memory as std does.
+//! **All else, [`Reader`] and names included, is written by hand: tested, not proved.** Tests compare it with a program in
+//! another language over some ten thousand descriptors. Any bytes may come: nothing panics on them. A call that says nothing
+//! of memory takes memory as std does.
 #![cfg_attr(not(test), no_std)]
 #![forbid(unsafe_code)]
 #![warn(missing_docs, missing_debug_implementations)]

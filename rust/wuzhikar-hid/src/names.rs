@@ -57,7 +57,7 @@ pub fn usages_named(name: &str) -> impl Iterator<Item = u32> + '_ {
     named.chain(unnamed(name))
 }
 
-/// The usage without a known name that is written as its page and its number.
+/// Reads a usage without a known name, which is written as its page and its number.
 fn unnamed(name: &str) -> Option<u32> {
     let hex = |word: &str| u16::from_str_radix(word.strip_suffix('h').or(word.strip_suffix('H'))?, 16).ok();
     let (page, low) = name.rsplit_once(' ')?;

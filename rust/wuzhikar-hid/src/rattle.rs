@@ -1,3 +1,4 @@
-//! What stands for parts of Rattle's library. Written by hand. **Not part of the stable interface.**
+//! Stand-ins for the parts of Rattle's library that the source calls. Written by hand: tested, not proved.
+//! **Not part of the stable interface.**
 
 pub use wuzhikar_reader::rattle::{Vec, alloc, memory, vec};

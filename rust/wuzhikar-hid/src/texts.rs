@@ -69,8 +69,8 @@ pub struct Fault {
 }
 
 impl Fault {
-    /// The same fault of a text that has so many bytes more in front.
-    fn behind(self, mark: usize) -> Fault {
+    /// Moves the place of the fault past so many bytes in front of the text.
+    fn moved_by(self, mark: usize) -> Fault {
         Fault { at: self.at + mark, ..self }
     }
 }
@@ -199,7 +199,7 @@ impl Form {
     /// The first fault of the text.
     pub fn read(self, text: &[u8]) -> Result<Vec<u8>, Fault> {
         let mark = if matches!(self, Form::Hex | Form::Bytes) { 0 } else { mark_len(text)? };
-        self.said(&text[mark..]).map_err(|fault| fault.behind(mark))
+        self.said(&text[mark..]).map_err(|fault| fault.moved_by(mark))
     }
 
     /// The bytes of a text without a mark.
@@ -239,7 +239,7 @@ pub fn taken(text: &[u8]) -> Result<(Form, Vec<u8>), (Form, Fault)> {
         Some(form) => form.read(text).map(|bytes| (form, bytes)).map_err(|fault| (form, fault)),
         None => numbers(text),
     };
-    told.map_err(|(form, fault)| (form, fault.behind(mark)))
+    told.map_err(|(form, fault)| (form, fault.moved_by(mark)))
 }
 
 /// The length of the mark that stands before a text.

@@ -1,12 +1,12 @@
-//! Calls that take what stands for the source's allocator, for the crates of this workspace. Written by hand. **Not part of
+//! Calls that take the stand-in for the source's allocator, for the crates of this workspace. Written by hand. **Not part of
 //! the stable interface.**
 
 use crate::parts::descriptor_parse::Parser;
 use crate::rattle::alloc::Global;
 
-/// How a parser starts in the source.
+/// The start of a parser, as the source calls it.
 pub trait ParserCalls {
-    /// A parser that was fed nothing.
+    /// Makes a parser that was fed nothing.
     fn new(alloc: Global) -> Self;
 }
 

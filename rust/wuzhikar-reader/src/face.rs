@@ -29,7 +29,7 @@ pub fn parse(text: &[u8]) -> Result<Descriptor, ParseError> {
 /// Parses a report descriptor of at most 4,096 bytes in the lenient mode, and returns the faults of [`parse`] that were passed
 /// over, with their offsets in bytes.
 ///
-/// A set between Delimiters stands for its first usage. A data item of a size or a count past the limits, and of 2^20 bits at
+/// A set between Delimiters is read as its first usage. A data item of a size or a count past the limits, and of 2^20 bits at
 /// most, is padding. In a text with Report IDs the data items before the first one are left out. A text that [`parse`] takes is
 /// answered the same, and nothing is passed over.
 ///

@@ -1,4 +1,5 @@
-//! What stands for parts of Rattle's library. Written by hand. **Not part of the stable interface.**
+//! Stand-ins for the parts of Rattle's library that the source calls. Written by hand: tested, not proved.
+//! **Not part of the stable interface.**
 
 pub mod alloc;
 pub mod memory;

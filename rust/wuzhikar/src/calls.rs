@@ -1,4 +1,4 @@
-//! Calls with a condition on their caller that nothing checks, and calls that take what stands for the source's allocator,
+//! Calls with a condition on their caller that nothing checks, and calls that take the stand-in for the source's allocator,
 //! for the crates of this workspace. Written by hand. **Not part of the stable interface.**
 
 use crate::parts::debounce::{Debouncer, Scan};
@@ -8,7 +8,7 @@ use crate::rattle::alloc::{AllocError, Global};
 use crate::unstarted::UnstartedKeyboardOf;
 use wuzhikar_log::NorFlash;
 
-/// Numbers of layers and keys that are known to be some.
+/// Layers and keys made from numbers that the caller has checked.
 pub trait Known {
     /// **Needs** a number of a layer (0 to 3), or of a key (0 to 95).
     fn known(number: u8) -> Self;

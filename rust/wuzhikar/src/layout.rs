@@ -158,8 +158,8 @@ impl<const R: usize, const C: usize> Switches<R, C> {
     ///
     /// # Panics
     ///
-    /// Where a number stands twice, where one below another is missing, and where one is 96 or more. In a `const` that is
-    /// an error when it is compiled.
+    /// If a number occurs twice, if one below another is missing, or if one is 96 or more. In a `const` the compiler reports
+    /// this.
     pub const fn new(keys: [[u8; C]; R]) -> Switches<R, C> {
         let (mut seen, mut count, mut place) = (0_u128, 0, 0);
         while place < R * C {

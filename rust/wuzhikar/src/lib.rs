@@ -3,7 +3,7 @@
 //!
 //! [`FlashKeyboard`] is the device with its flash; [`Keyboard`] is the device alone, and borrows its flash in the calls that
 //! use it. Each call is one event: a scan of the matrix, a packet of endpoint 0, a poll of endpoint 1, a step of the flash
-//! work, a bus reset. No call allocates or waits.
+//! work, a bus reset. No call allocates, and only the flash work may wait.
 //!
 //! ```
 //! use wuzhikar::{EpAnswer, FlashFault, FlashKeyboard, NorFlash, Scan};

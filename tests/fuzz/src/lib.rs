@@ -20,22 +20,23 @@ macro_rules! target {
 pub struct Bytes<'a>(pub &'a [u8]);
 
 impl<'a> Bytes<'a> {
-    pub fn one(&mut self) -> u8 {
+    /// Takes the next byte.
+    pub fn next_byte(&mut self) -> u8 {
         let (first, rest) = self.0.split_first().unwrap_or((&0, &[]));
         self.0 = rest;
         *first
     }
 
-    /// At most so many.
-    pub fn some(&mut self, count: usize) -> &'a [u8] {
+    /// Takes at most so many bytes.
+    pub fn take(&mut self, count: usize) -> &'a [u8] {
         let (some, rest) = self.0.split_at(count.min(self.0.len()));
         self.0 = rest;
         some
     }
 
-    /// So many, zeros for those that are not there.
+    /// Takes so many bytes, with zeros for those that are not there.
     pub fn array<const N: usize>(&mut self) -> [u8; N] {
-        core::array::from_fn(|_| self.one())
+        core::array::from_fn(|_| self.next_byte())
     }
 
     pub fn is_empty(&self) -> bool {

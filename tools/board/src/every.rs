@@ -27,7 +27,7 @@ impl Session {
     fn cut(&self, chip: &mut Chip, order: Order) -> Answer<Option<Outcome>> {
         chip.put(&self.flash);
         chip.power(order)?;
-        let told = match self.until_the_cut(chip) {
+        let told = match self.run_until_cut(chip) {
             Ok(()) => {
                 chip.cut()?;
                 return Ok(None);
@@ -50,8 +50,8 @@ impl Session {
         Ok(Some(Outcome { told, done }))
     }
 
-    /// The session to its end, where the power does not go. Where it goes: whether the host was told before.
-    fn until_the_cut(&self, chip: &mut Chip) -> Result<(), (bool, Lost)> {
+    /// Runs the session to its end. If the power goes before, the error says whether the host was told.
+    fn run_until_cut(&self, chip: &mut Chip) -> Result<(), (bool, Lost)> {
         let before = |lost| (false, lost);
         host::start(chip).map_err(before)?;
         let stored = host::command(chip, self.command).map_err(before)?;
@@ -63,8 +63,8 @@ impl Session {
     }
 
     /// Cuts at each of these places, all of which the session has to reach.
-    fn at_each(&self, shop: &Shop, what: &str, orders: Vec<Order>) -> Answer<Counts> {
-        let (wanted, counts) = (orders.len(), self.at_all(shop, what, orders.into_iter())?);
+    fn cut_at_each(&self, shop: &Shop, what: &str, orders: Vec<Order>) -> Answer<Counts> {
+        let (wanted, counts) = (orders.len(), self.cut_at_all(shop, what, orders.into_iter())?);
         if counts.cuts as usize != wanted {
             return Err(Lost::Dead(format!("of {wanted} ordered cuts {} were made", counts.cuts)));
         }
@@ -72,7 +72,7 @@ impl Session {
     }
 
     /// Cuts at these places, up to the first that the session does not reach.
-    fn at_all(&self, shop: &Shop, what: &str, orders: impl Iterator<Item = Order>) -> Answer<Counts> {
+    fn cut_at_all(&self, shop: &Shop, what: &str, orders: impl Iterator<Item = Order>) -> Answer<Counts> {
         let (mut chip, began) = (shop.chip()?, Instant::now());
         let mut counts = Counts::default();
         for order in orders {
@@ -88,7 +88,7 @@ impl Session {
         Ok(counts)
     }
 
-    /// How many ticks and operations the session takes, and how many ticks of them its start.
+    /// Returns how many ticks the start takes, and how many ticks and operations the whole session.
     fn length(&self, shop: &Shop, order: Order) -> Answer<(u64, u64, u64)> {
         let mut chip = shop.chip()?;
         chip.put(&self.flash);
@@ -98,7 +98,7 @@ impl Session {
         let start = chip.told.ticks;
         chip.put(&self.flash);
         chip.power(order)?;
-        self.until_the_cut(&mut chip).map_err(|(_, lost)| lost)?;
+        self.run_until_cut(&mut chip).map_err(|(_, lost)| lost)?;
         chip.cut()?;
         Ok((start, chip.told.ticks, chip.told.operations))
     }
@@ -138,23 +138,23 @@ fn compacting() -> Session {
 }
 
 /// A program takes four ticks where an instruction takes one, so that some cuts fall into one.
-fn at_tick(tick: u64) -> Order {
+fn tick_order(tick: u64) -> Order {
     Order { tick, takes: [4, 16], undone: 257, seed: tick, ..Order::NEVER }
 }
 
 /// Each operation is torn in five ways.
-fn at_operation(operation: u64) -> impl Iterator<Item = Order> {
+fn operation_orders(operation: u64) -> impl Iterator<Item = Order> {
     [0, 64, 128, 192, 256].into_iter().map(move |undone| Order { operation, undone, seed: operation, ..Order::NEVER })
 }
 
 /// Few of a word's bits are left undone: such a word may pass for another.
-fn in_word(word: u64) -> impl Iterator<Item = Order> {
+fn word_orders(word: u64) -> impl Iterator<Item = Order> {
     [8, 16, 24].into_iter().map(move |undone| Order { operation: word, undone, ..Order::NEVER })
 }
 
 /// How long the sessions are: the ticks of the one with a command, and the operations of the other.
 pub fn lengths(shop: &Shop) -> Answer<()> {
-    let (_, ticks, _) = with_room().length(shop, at_tick(u64::MAX))?;
+    let (_, ticks, _) = with_room().length(shop, tick_order(u64::MAX))?;
     let (_, _, operations) = compacting().length(shop, Order::NEVER)?;
     println!("{ticks} {operations}");
     Ok(())
@@ -163,15 +163,15 @@ pub fn lengths(shop: &Shop) -> Answer<()> {
 /// A cut at each so many instructions of the start, and sixteen times as often behind it.
 pub fn instructions(shop: &Shop, stride: u64) -> Answer<()> {
     let session = with_room();
-    let (start, _, _) = session.length(shop, at_tick(u64::MAX))?;
+    let (start, _, _) = session.length(shop, tick_order(u64::MAX))?;
     let ticks = (1..start).step_by(stride as usize).chain((start..).step_by(stride.div_ceil(16) as usize));
-    session.at_all(shop, &format!("every {stride}. instruction of {start}, and more behind"), ticks.map(at_tick))?.met()
+    session.cut_at_all(shop, &format!("every {stride}. instruction of {start}, and more behind"), ticks.map(tick_order))?.met()
 }
 
 /// A cut at each so many of these ticks.
 pub fn instructions_of(shop: &Shop, stride: u64, from: u64, to: u64) -> Answer<()> {
     let ticks = (from..to).step_by(stride as usize);
-    with_room().at_all(shop, &format!("every {stride}. instruction from {from} on"), ticks.map(at_tick)).map(drop)
+    with_room().cut_at_all(shop, &format!("every {stride}. instruction from {from} on"), ticks.map(tick_order)).map(drop)
 }
 
 /// A cut in each so many operations, in the first eight, among which the four of the erase are, and in the last four.
@@ -179,20 +179,24 @@ pub fn operations(shop: &Shop, stride: u64) -> Answer<()> {
     let (_, _, all) = compacting().length(shop, Order::NEVER)?;
     let places = (1..=all).filter(|at| *at <= 8 || at % stride == 0 || at + 4 > all);
     compacting()
-        .at_each(shop, &format!("every {stride}. operation of {all} of a compaction"), places.flat_map(at_operation).collect())?
+        .cut_at_each(
+            shop,
+            &format!("every {stride}. operation of {all} of a compaction"),
+            places.flat_map(operation_orders).collect(),
+        )?
         .met()
 }
 
 /// A cut in each of these operations.
 pub fn operations_of(shop: &Shop, from: u64, to: u64) -> Answer<()> {
-    compacting().at_all(shop, &format!("each operation from {from} on"), (from..to).flat_map(at_operation)).map(drop)
+    compacting().cut_at_all(shop, &format!("each operation from {from} on"), (from..to).flat_map(operation_orders)).map(drop)
 }
 
 /// So many tears of each word of a record, in three ways, drawn from seeds that follow this one.
 pub fn words(shop: &Shop, tears: u64, seed: u64) -> Answer<()> {
     // With error correction two units are programmed, each with its checks.
     let count = if shop.chip()?.corrects() { 6 } else { 2 };
-    let orders = (1..=count).flat_map(in_word);
+    let orders = (1..=count).flat_map(word_orders);
     let seeded = orders.flat_map(|order| (seed..seed + tears).map(move |seed| Order { seed, ..order }));
-    with_room().at_each(shop, "the words of a record", seeded.collect())?.met()
+    with_room().cut_at_each(shop, "the words of a record", seeded.collect())?.met()
 }

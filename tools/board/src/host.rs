@@ -73,7 +73,7 @@ pub fn name(chip: &mut Chip) -> Answer<()> {
     }
 }
 
-/// Whether a command was confirmed; if not it was refused.
+/// Sends a command, and returns whether it was confirmed; if not, it was refused.
 pub fn command(chip: &mut Chip, command: Command) -> Answer<bool> {
     match control(chip, SET_FEATURE, &command.packet())? {
         Some(status) if !status.is_empty() => Err(Lost::Dead(format!("WRONG: {status:02x?} in place of a status packet"))),
@@ -81,14 +81,14 @@ pub fn command(chip: &mut Chip, command: Command) -> Answer<bool> {
     }
 }
 
-/// An IN token in place of the data of a write, which the host began in a read: what a controller with buffers holds behind SETUP.
-pub fn behind_setup(chip: &mut Chip) -> Answer<Frame> {
+/// Sends an IN token in place of the data of a write that the host began in a read: what a controller with buffers has after SETUP.
+pub fn token_after_setup(chip: &mut Chip) -> Answer<Frame> {
     chip.ask(&[b"s", &GET_DEVICE[..]].concat())?;
     chip.ask(&[b"s", &SET_FEATURE[..]].concat())?;
     chip.ask(b"i")
 }
 
-/// A read that the host gives up for a command, which then is confirmed with the first token behind the chip's work.
+/// Sends a command in the middle of a read; the first token after the chip's work has to confirm it.
 pub fn command_in_a_read(chip: &mut Chip, command: Command) -> Answer<bool> {
     chip.ask(&[b"s", &GET_DEVICE[..]].concat())?;
     chip.ask(&[b"s", &SET_FEATURE[..]].concat())?;
@@ -108,7 +108,7 @@ pub fn scan(chip: &mut Chip, keys: &[u8]) -> Answer<Frame> {
     chip.ask(&[b"m", &bytes[..]].concat())
 }
 
-/// The report that is due, put together from its packets of 16 bytes.
+/// Reads the report that is due, from its packets of 16 bytes.
 pub fn poll(chip: &mut Chip) -> Answer<Vec<u8>> {
     let mut report = Vec::new();
     loop {

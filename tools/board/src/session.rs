@@ -47,7 +47,7 @@ pub fn armed(shop: &Shop) -> Answer<()> {
     chip.power(Order::NEVER)?;
     host::start(&mut chip)?;
     host::enumerate(&mut chip)?;
-    let frame = host::behind_setup(&mut chip)?;
+    let frame = host::token_after_setup(&mut chip)?;
     if frame.kind != b'N' {
         return Err(Lost::Dead(format!("ARMED: behind a SETUP packet endpoint 0 holds {frame:02x?}")));
     }

@@ -36,13 +36,13 @@ impl Ended {
         Ended::Fault { line: line.into(), sentence: sentence.into() }
     }
 
-    /// Want of memory.
+    /// The end for a lack of memory.
     pub fn memory() -> Ended {
         Ended::fault(MEMORY, "out of memory")
     }
 
-    /// The same of what a path gives, which the sentence names.
-    pub fn of(self, path: Option<&OsString>) -> Ended {
+    /// Puts the name of the path in front of the sentence.
+    pub fn naming(self, path: Option<&OsString>) -> Ended {
         let named = |sentence: String| format!("{}{sentence}", files::named(path));
         match self {
             Ended::Fault { line, sentence } if line != MEMORY => Ended::fault(line, named(sentence)),
@@ -51,15 +51,15 @@ impl Ended {
         }
     }
 
-    /// The same fault, of which its sentence says this too.
-    pub fn with(self, more: &str) -> Ended {
+    /// Adds these words to the sentence of a fault.
+    pub fn adding(self, more: &str) -> Ended {
         match self {
             Ended::Fault { line, sentence } => Ended::fault(line, sentence + more),
             other => other,
         }
     }
 
-    /// Tells it; the exit status.
+    /// Prints the end, and returns the exit status.
     pub fn told(self) -> ExitCode {
         let printed = match &self {
             Ended::Words(error) if error.use_stderr() => {

@@ -1,5 +1,5 @@
-//! What is read and written: files, and the descriptors 0 and 1 themselves, so that their faults are told, which
-//! the handles of std take for an end of the input and for written bytes where the descriptor is open for the other.
+//! What is read and written: files, and the descriptors 0 and 1 themselves. If one is open for the other direction, std's
+//! handles see an end of the input, or bytes as written; here that is a fault.
 
 use super::ends::Ended;
 use kbsim::parts::text_io::{ReadError, read_text};
@@ -57,7 +57,7 @@ fn input() -> io::Result<io::Stdin> {
     Ok(io::stdin())
 }
 
-/// Whether a path stands for standard input: where there is none, or it is `-`.
+/// Whether standard input is meant: there is no path, or it is `-`.
 pub fn is_input(path: Option<&OsString>) -> bool {
     path.is_none_or(|path| path == "-")
 }
@@ -110,7 +110,7 @@ pub fn text_of(path: Option<&OsString>, name: &str) -> Result<Vec<u8>, Ended> {
     read.map_err(|error| match error {
         ReadError::TooLong => too_long(path, name),
         ReadError::Input => {
-            Ended::fault("fault input", format!("the {} can't be read", name.replace("script", "input"))).of(path)
+            Ended::fault("fault input", format!("the {} can't be read", name.replace("script", "input"))).naming(path)
         }
         ReadError::Memory => Ended::memory(),
     })
@@ -118,14 +118,14 @@ pub fn text_of(path: Option<&OsString>, name: &str) -> Result<Vec<u8>, Ended> {
 
 /// The refusal of a text that is too long.
 pub fn too_long(path: Option<&OsString>, name: &str) -> Ended {
-    Ended::fault("fault too long", format!("the {name} is longer than {MOST} bytes")).of(path)
+    Ended::fault("fault too long", format!("the {name} is longer than {MOST} bytes")).naming(path)
 }
 
 /// The lines of a text within its first 1,048,576 bytes, and whether more follow.
 pub fn start_of(path: Option<&OsString>, name: &str) -> Result<(Vec<u8>, bool), Ended> {
     let mut text = Vec::new();
     let read = opened(path)?.0.take(MOST as u64 + 1).read_to_end(&mut text);
-    read.map_err(|_| Ended::fault("fault input", format!("the {name} can't be read")).of(path))?;
+    read.map_err(|_| Ended::fault("fault input", format!("the {name} can't be read")).naming(path))?;
     let is_cut = text.len() > MOST;
     if is_cut {
         text.truncate(text.iter().rposition(|byte| *byte == b'\n').map_or(0, |end| end + 1));

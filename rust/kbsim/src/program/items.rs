@@ -10,7 +10,7 @@ use wuzhikar_reader::parts::descriptor_parse::number::{signed, unsigned};
 use wuzhikar_reader::parts::descriptor_parse::state::State;
 use wuzhikar_reader::{AllocError, Item, Kind, MainTag, ParseError, ParseFault, Tag};
 
-/// How many collections are open behind an item, of those before it.
+/// How many collections are open after an item, of those before it.
 pub fn depth_behind(item: &Item<'_>, depth: usize) -> usize {
     match item.tag() {
         Tag::Main(MainTag::Collection) => depth + 1,
@@ -51,7 +51,7 @@ impl Beside for Lines {
 }
 
 /// Prints a line for each item; of a descriptor with a fault those up to it, and the fault is answered. In the lenient mode they
-/// are the items that are read, at the offsets of those that they stand for.
+/// are the items that are read, at the offsets of those that they replace.
 pub fn parse(descriptor: &Descriptor<'_>, out: &mut impl Write) -> Result<(), Ended> {
     let mut lines = Lines::default();
     match parse_beside((), descriptor.text(), &mut lines).err() {

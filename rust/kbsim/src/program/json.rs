@@ -92,7 +92,7 @@ struct Named {
 /// padding in its place does; its usages are those of the Usages before it, on the page in force.
 struct Empty<'t> {
     text: &'t [u8],
-    /// The items so far that say anything of those behind the next Main item: Main items that take bits, and Global items.
+    /// The items so far that say anything of those after the next Main item: Main items that take bits, and Global items.
     before: Vec<u8>,
     /// The Global items since the latest Main item, Push or Pop: of each tag the last one decides.
     globals: Vec<(u8, &'t [u8])>,
@@ -135,7 +135,7 @@ impl<'t> Empty<'t> {
         }
     }
 
-    /// Keeps a Main or a Global item for the items behind it.
+    /// Keeps a Main or a Global item for the items after it.
     fn keep(&mut self, is_global: bool, tag: u8, own: &'t [u8]) {
         let is_push_or_pop = tag == 10 || tag == 11;
         if is_global && !is_push_or_pop {

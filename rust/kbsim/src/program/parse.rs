@@ -20,7 +20,7 @@ pub fn parse(given: &ArgMatches) -> Result<(), Ended> {
     let is_whole = given.get_flag("details") || given.get_flag("json");
     let bytes =
         if is_whole { bytes_in(&text, form_of(given, None)).map(|(_, bytes)| bytes) } else { bytes_in_hex(&text, given) };
-    let descriptor = Descriptor::new(path, bytes.map_err(|ended| ended.of(path))?, is_lenient)?;
+    let descriptor = Descriptor::new(path, bytes.map_err(|ended| ended.naming(path))?, is_lenient)?;
     let mut out = BufWriter::new(files::output()?);
     if given.get_flag("json") {
         json::parse(&descriptor, is_lenient, &mut out)?;
@@ -46,7 +46,7 @@ fn fields(descriptor: &Descriptor<'_>, out: &mut impl Write) -> Result<(), Ended
     let bytes = descriptor.text();
     let text = hex::encode(&bytes[..bytes.len().min(MOST)]);
     parse_text(&mut text.as_bytes(), out).map_err(|error| match error {
-        LinesError::Refused(error) => Ended::Said(sentences::of_item(bytes, error)).of(descriptor.path()),
+        LinesError::Refused(error) => Ended::Said(sentences::item_fault(bytes, error)).naming(descriptor.path()),
         error => error.into(),
     })
 }

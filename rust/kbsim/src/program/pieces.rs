@@ -24,7 +24,7 @@ pub fn put_number(line: &mut Vec<u8>, number: i64) {
     line.extend_from_slice(&digits[first..]);
 }
 
-/// The names of usages that were told, in quotes, at most 4,096 of them: to look one up takes a search.
+/// The names of usages that were printed, in quotes, at most 4,096 of them: they are kept since each look-up is a search.
 pub struct Names {
     told: HashMap<u32, String>,
     /// Whether they are texts of JSON.
@@ -36,7 +36,7 @@ impl Names {
         Names { told: HashMap::new(), is_json }
     }
 
-    pub fn of(&mut self, usage: u32) -> &str {
+    pub fn quoted(&mut self, usage: u32) -> &str {
         if self.told.len() == 4_096 && !self.told.contains_key(&usage) {
             self.told.clear();
         }

@@ -110,7 +110,7 @@ impl<W: Write> Teller<'_, W> {
     fn put_usage(&mut self, before: u8, usage: u32) {
         if self.names_usages {
             self.line.push(before);
-            return self.line.extend_from_slice(self.names.of(usage).as_bytes());
+            return self.line.extend_from_slice(self.names.quoted(usage).as_bytes());
         }
         let digit = |shift: u32| b"0123456789abcdef"[(usage >> shift & 15) as usize];
         let digits = [before, digit(28), digit(24), digit(20), digit(16), digit(12), digit(8), digit(4), digit(0)];
@@ -202,12 +202,12 @@ impl<W: Write> Teller<'_, W> {
         writeln!(self.out, "fault {name} at {}", self.number)
     }
 
-    /// Says a sentence about the reports on standard error.
+    /// Prints a sentence about the reports on standard error.
     fn say(&self, sentence: &str) {
         tell(&format!("{}{sentence}", files::named(self.path)));
     }
 
-    /// Tells a line: hex digits, a line of usbmon with its data behind an equals sign, or one of a recording.
+    /// Prints what a line says: hex digits, a line of usbmon with its data after an equals sign, or one of a recording.
     fn tell_line(&mut self, line: &[u8]) -> Result<(), Ended> {
         self.number += 1;
         let line = if self.number == 1 && Mark::of(line) == Some(Mark::Utf8) { &line[3..] } else { line };
@@ -220,7 +220,7 @@ impl<W: Write> Teller<'_, W> {
             }
             Some(Line::Report(report)) if is_asked => Ok(self.tell(&report)?),
             Some(Line::Damaged(fault)) if is_asked => {
-                self.say(&sentences::of_event(self.number, line, fault));
+                self.say(&sentences::event_fault(self.number, line, fault));
                 Ok(self.refuse("Event")?)
             }
             Some(_) => Ok(()),
@@ -229,7 +229,7 @@ impl<W: Write> Teller<'_, W> {
         }
     }
 
-    /// Takes a line of a block: bytes, or the blank one behind its last.
+    /// Takes a line of a block: bytes, or the blank line that ends it.
     fn take_of_block(&mut self, line: &[u8]) -> io::Result<()> {
         if line.trim_ascii().is_empty() {
             return self.end_block();
@@ -247,7 +247,7 @@ impl<W: Write> Teller<'_, W> {
         self.refuse(refused)
     }
 
-    /// Tells the report of a block that ends, by the number of its first line.
+    /// Prints the report of a block that ends, under the number of its first line.
     fn end_block(&mut self) -> io::Result<()> {
         let Some(Block { number, report: Some(report) }) = self.block.take() else { return Ok(()) };
         let last = std::mem::replace(&mut self.number, number);
@@ -271,7 +271,7 @@ impl<W: Write> Teller<'_, W> {
 
     /// Whether a packet of usbmon is of the address that is asked for. Without one, that is the first; another one is refused.
     fn is_of_address(&mut self, line: &[u8]) -> Result<bool, Ended> {
-        let Some(found) = Address::of(line) else { return Ok(self.asked.is_none()) };
+        let Some(found) = Address::from_line(line) else { return Ok(self.asked.is_none()) };
         if self.asked.is_some_and(|asked| asked.meet(found).is_none()) {
             return Ok(false);
         }
@@ -281,7 +281,7 @@ impl<W: Write> Teller<'_, W> {
             return Ok(true);
         }
         let sentence = format!("line {}: a packet of {found} behind those of {first}; --address chooses one", self.number);
-        Err(Ended::fault("fault address", sentence).of(self.path))
+        Err(Ended::fault("fault address", sentence).naming(self.path))
     }
 }
 
@@ -329,7 +329,7 @@ fn read_some(from: &mut dyn Read, piece: &mut [u8], path: Option<&OsString>) -> 
         match from.read(piece) {
             Ok(len) => return Ok(len),
             Err(error) if error.kind() == io::ErrorKind::Interrupted => {}
-            Err(error) => return Err(Ended::fault("fault input", format!("the reports can't be read: {error}")).of(path)),
+            Err(error) => return Err(Ended::fault("fault input", format!("the reports can't be read: {error}")).naming(path)),
         }
     }
 }
@@ -465,7 +465,7 @@ fn read_reports(given: &ArgMatches) -> Result<bool, Ended> {
         return Err(words::refused("read", "standard input can't be both, the descriptor and the reports").into());
     }
     let (text, is_cut) = files::start_of(of_descriptor, "text")?;
-    let read = bytes_in(&text, form).map_err(|ended| ended.of(of_descriptor));
+    let read = bytes_in(&text, form).map_err(|ended| ended.naming(of_descriptor));
     // (Of a recording beside its reports the start is enough.)
     if is_cut && !read.as_ref().is_ok_and(|(form, _)| form.is_recording() && !has_own(*form)) {
         return Err(files::too_long(of_descriptor, "text"));

@@ -119,7 +119,7 @@ fn put_usage(line: &mut Vec<u8>, usage: Option<u32>) {
 
 fn put_name(line: &mut Vec<u8>, usage: Option<u32>, names: &mut Names) {
     line.extend_from_slice(b",\"name\":");
-    line.extend_from_slice(usage.map_or("null", |usage| names.of(usage)).as_bytes());
+    line.extend_from_slice(usage.map_or("null", |usage| names.quoted(usage)).as_bytes());
 }
 
 fn put_bytes(line: &mut Vec<u8>, bytes: &[u8]) {

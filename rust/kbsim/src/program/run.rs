@@ -34,7 +34,7 @@ fn flash_of(image: Option<&OsString>, pages: u8) -> Result<SimFlash, Ended> {
             RunError::Input => "fault input",
             _ => "fault memory",
         };
-        Ended::fault(line, error.to_string()).of(image)
+        Ended::fault(line, error.to_string()).naming(image)
     })
 }
 
@@ -49,7 +49,7 @@ fn run_text(flash: SimFlash, mut text: &[u8], path: Option<&OsString>, explain: 
     };
     ended.map_err(|error| match error {
         RunError::Output => Ended::Output,
-        RunError::Line { line, .. } => Ended::Said(sentences::of_line(pages, script, line).unwrap_or_default()).of(path),
+        RunError::Line { line, .. } => Ended::Said(sentences::line_fault(pages, script, line).unwrap_or_default()).naming(path),
         _ => Ended::Said(error.to_string()),
     })
 }

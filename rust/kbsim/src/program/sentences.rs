@@ -16,8 +16,8 @@ const MOST_OF_ITEM: usize = 16;
 /// The length of the longest word that may be meant for one of scripts.
 const LONGEST: usize = 18;
 
-/// What is wrong with the line of this number of a script for a flash of so many pages.
-pub fn of_line(pages: usize, text: &[u8], number: usize) -> Option<String> {
+/// Says what is wrong with the line of this number of a script for a flash of so many pages.
+pub fn line_fault(pages: usize, text: &[u8], number: usize) -> Option<String> {
     if let Some(mark) = Mark::of(text).filter(|_| number == 1) {
         return Some(format!("line 1: {mark}"));
     }
@@ -38,7 +38,7 @@ fn name(keyword: Keyword) -> String {
     String::from_utf8_lossy(keyword.spelling()).into_owned()
 }
 
-/// The word of scripts that takes the fewest edits to come to, at most half as many as it has letters, or else all there are.
+/// Names the word of scripts that is fewest edits away, at most half as many as it has letters; else all words.
 fn meant(word: &[u8]) -> String {
     let word = Some(word).filter(|word| word.len() <= LONGEST);
     let edits = |keyword: &Keyword| Some(strsim::generic_levenshtein(&Bytes(word?), &Bytes(keyword.spelling())));
@@ -76,7 +76,7 @@ fn taken(keyword: Keyword) -> &'static str {
     }
 }
 
-/// What one is called of those that are wanted, and which all are, but for the pages, whose number the flash says.
+/// What a wanted thing is called, and which ones there are; not for pages, whose number the flash says.
 fn words_of(wanted: Wanted) -> (&'static str, Option<&'static str>) {
     let (noun, all) = match wanted {
         Wanted::Page => return ("page", None),
@@ -94,24 +94,24 @@ fn words_of(wanted: Wanted) -> (&'static str, Option<&'static str>) {
     (noun, Some(all))
 }
 
-/// Why a text does not say a report descriptor.
-pub fn of_text(text: &[u8], fault: Fault) -> String {
+/// Says why a text is no report descriptor.
+pub fn text_fault(text: &[u8], fault: Fault) -> String {
     let more = if let Why::Ambiguous(..) = fault.why { "; --from says which" } else { "" };
     fault.sentence(text) + more
 }
 
-/// Why a text is not pairs of hex digits.
-pub fn of_digits(text: &[u8], fault: Fault) -> String {
-    if let Why::OddDigits(_) = fault.why { fault.words(text) } else { of_text(text, fault) }
+/// Says why a text is not pairs of hex digits.
+pub fn digits_fault(text: &[u8], fault: Fault) -> String {
+    if let Why::OddDigits(_) = fault.why { fault.words(text) } else { text_fault(text, fault) }
 }
 
-/// Why the line of this number of a recording is no event.
-pub fn of_event(number: u64, line: &[u8], fault: Fault) -> String {
+/// Says why the line of this number of a recording is no event.
+pub fn event_fault(number: u64, line: &[u8], fault: Fault) -> String {
     format!("line {number}, column {}: {}", fault.at + 1, fault.words(line))
 }
 
-/// Why a report descriptor is refused: at which item (HID 1.11, sections 6.2.2.2 and 6.2.2.3), and for what.
-pub fn of_item(text: &[u8], error: ParseError) -> String {
+/// Says why a report descriptor is refused, and at which item (HID 1.11, sections 6.2.2.2 and 6.2.2.3).
+pub fn item_fault(text: &[u8], error: ParseError) -> String {
     let rest = text.get(error.offset..).unwrap_or_default();
     let size = match rest {
         [] => 0,

@@ -31,7 +31,7 @@ pub fn bytes_in(text: &[u8], form: Option<Form>) -> Result<(Form, Vec<u8>), Ende
             Why::Utf16 if form.is_none() => "utf-16",
             _ => found.name(),
         };
-        let told = if form == Some(Form::Hex) { sentences::of_digits } else { sentences::of_text };
+        let told = if form == Some(Form::Hex) { sentences::digits_fault } else { sentences::text_fault };
         Ended::fault(format!("fault {name}"), told(text, fault))
     })
 }
@@ -42,7 +42,7 @@ pub fn bytes_in_hex(text: &[u8], given: &ArgMatches) -> Result<Vec<u8>, Ended> {
     let read = bytes_in(text, form_of(given, Some(Form::Hex))).map(|(_, bytes)| bytes);
     let is_named = given.contains_id("from");
     read.map_err(|ended| match taken(text) {
-        Ok((found, _)) if !is_named => ended.with(&format!("; --from auto reads it as {}", found.name())),
+        Ok((found, _)) if !is_named => ended.adding(&format!("; --from auto reads it as {}", found.name())),
         _ => ended,
     })
 }
@@ -121,15 +121,15 @@ impl<'p> Descriptor<'p> {
         let error = ParseError { offset: self.origin(error.offset), ..error };
         Ended::fault(
             format!("fault parse {} at {}", error.fault.number(), error.offset),
-            sentences::of_item(&self.bytes, error),
+            sentences::item_fault(&self.bytes, error),
         )
-        .of(self.path)
+        .naming(self.path)
     }
 }
 
 /// The report descriptor that a path gives, whose form is looked at unless it is named.
 pub fn descriptor_of<'p>(path: Option<&'p OsString>, given: &ArgMatches) -> Result<Descriptor<'p>, Ended> {
-    let read = bytes_in(&text_of(path, "text")?, form_of(given, None)).map_err(|ended| ended.of(path));
+    let read = bytes_in(&text_of(path, "text")?, form_of(given, None)).map_err(|ended| ended.naming(path));
     Descriptor::new(path, read?.1, false)
 }
 

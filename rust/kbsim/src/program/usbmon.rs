@@ -24,7 +24,7 @@ impl Address {
     }
 
     /// The address of a line; `None` if it has none.
-    pub fn of(line: &[u8]) -> Option<Address> {
+    pub fn from_line(line: &[u8]) -> Option<Address> {
         Address::read(std::str::from_utf8(words_of(line).nth(3)?).ok()?.get(3..)?).ok()
     }
 

@@ -53,7 +53,7 @@ fn control(name: &str, place: usize) -> Option<Control<'_>> {
     usages_named(name).next().map(|_| Control::Named(name, place))
 }
 
-/// A number, decimal or behind `0x` in hex, a null, or a fraction of the unit: `unit:-1/3`, `unit:0.25`.
+/// A number, decimal or after `0x` in hex, a null, or a fraction of the unit: `unit:-1/3`, `unit:0.25`.
 fn value(word: &str) -> Option<Value> {
     if matches!(word, "null" | "none") {
         return Some(Value::Asked(Asked::Null));
@@ -70,7 +70,7 @@ fn value(word: &str) -> Option<Value> {
     Some(Value::Asked(Asked::Value(value)))
 }
 
-/// A fraction: `-1/3`, or a decimal of at most 18 digits behind the point.
+/// A fraction: `-1/3`, or a decimal of at most 18 digits after the point.
 fn fraction(word: &str) -> Option<Value> {
     if let Some((above, below)) = word.split_once('/') {
         return Some(Value::Unit(number(above)?, number(below)?));
@@ -109,7 +109,7 @@ impl Report {
         };
         let asked = match value {
             Value::Asked(asked) => asked,
-            Value::Unit(above, below) => Asked::Value(self.of_unit(number, target, above, below)?),
+            Value::Unit(above, below) => Asked::Value(self.value_in_unit(number, target, above, below)?),
         };
         Ok(Setting { target, asked })
     }
@@ -127,8 +127,8 @@ impl Report {
         found.ok_or_else(|| self.told(WriteError::Unknown(number)))
     }
 
-    /// The value of a control that is so much in its unit.
-    fn of_unit(&self, number: usize, target: Target, above: i64, below: u64) -> Result<i64, Ended> {
+    /// Returns the value of a control that is this fraction of its unit.
+    fn value_in_unit(&self, number: usize, target: Target, above: i64, below: u64) -> Result<i64, Ended> {
         let field = self.field_of(target)?.ok_or_else(|| self.told(WriteError::Unknown(number)))?;
         let detail = self.reader.detail(field).ok_or_else(|| self.told(WriteError::Unknown(number)))?;
         detail.value_of(above, below).map_err(|why| {
@@ -144,8 +144,8 @@ impl Report {
         self.reader.field_of(self.kind, self.id, target).map_err(|_| Ended::memory())
     }
 
-    /// A refusal with its name, as `OutOfRange`, and the number of the setting or field behind it. Of what is not there, what is
-    /// there is said.
+    /// A refusal with its name, as `OutOfRange`, and the number of the setting or field after it. For a control or a report that is
+    /// not there, its sentence lists those that are.
     fn told(&self, why: WriteError) -> Ended {
         let more = match why {
             WriteError::UnknownReport => format!("; it has {}", self.reports()),

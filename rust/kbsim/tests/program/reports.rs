@@ -150,7 +150,7 @@ fn a_value_that_is_cut_to_nothing_has_no_sign() {
 #[test]
 fn a_device_is_read_live() {
     let folder = Folder::new("live");
-    // A sysfs in which what is no device, of number 0:0, stands for one of hidraw: two reports of a key, and no more.
+    // A sysfs that names a plain file, of number 0:0, as a hidraw device: two reports of a key, and no more.
     let sysfs = "mkdir -p sys/dev/char/0:0/device; ln -s ../class/hidraw sys/dev/char/0:0/subsystem; mkfifo fifo
         printf '\\5\\7\\11\\4\\25\\0\\45\\1\\165\\10\\225\\1\\201\\2' > sys/dev/char/0:0/device/report_descriptor";
     folder.ends(sysfs, 0, "", "");

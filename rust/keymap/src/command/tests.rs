@@ -8,7 +8,7 @@ use wuzhikar_device::{Device, Guarded, Keys, NotDone, Product, ScansMatrix, read
 /// A keyboard in memory, called as hidraw calls a real one. A stall is EPIPE, a cut of the power EPROTO.
 struct Played {
     device: Device<'static, SimFlash>,
-    /// The power goes in the first flash operation of the command behind so many, which takes effect as far as a mask says.
+    /// The power goes in the first flash operation of the command after so many, which takes effect as far as a mask says.
     cut: Option<(usize, u8)>,
     sets: usize,
     paused: Duration,
@@ -65,7 +65,7 @@ fn words(line: &str) -> Vec<OsString> {
     line.split_whitespace().map(OsString::from).collect()
 }
 
-/// What is printed of a line, or the error.
+/// Runs a line, and returns what it prints, or the error.
 fn run(played: &mut impl Features, line: &str) -> String {
     match Given::read(&words(line)) {
         Ok(Given::Run(run)) => match run.command.run(played) {
@@ -133,7 +133,7 @@ fn a_file_is_loaded_and_a_load_that_was_cut_is_taken_up() {
     fs::write(&folder, &file).unwrap();
     let load = format!("load {}", folder.display());
     assert_eq!(run(&mut played, &load), "0 entries differed, and are stored\n");
-    // The power goes in the second of three, before and behind what it stores. (The page has no header yet for the first.)
+    // The power goes in the second of three, before and after what it stores. (The page has no header yet for the first.)
     for (mask, left) in [(0, 2), (0xff, 1)] {
         let mut other = Played::blank();
         other.cut = Some((1, mask));

@@ -7,7 +7,7 @@ fn standard() -> String {
         88..96 => 0xe0 + place as u16 - 88,
         _ => 1,
     });
-    Keymap::of(codes.map(|bits| Code::read(bits).ok().unwrap()).collect()).write(None)
+    Keymap::from_codes(codes.map(|bits| Code::read(bits).ok().unwrap()).collect()).write(None)
 }
 
 fn refused(text: &str) -> String {

@@ -20,6 +20,6 @@ mod unused;
 mod writing;
 
 pub use control::{Control, control_of};
-pub use kept::{Kept, kept_fields, usages_of};
+pub use kept::{Kept, kept_at, kept_fields, usages_of};
 pub use setting::{Setting, Target, WriteError};
 pub use writing::write;

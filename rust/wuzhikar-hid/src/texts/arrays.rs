@@ -1,4 +1,4 @@
-//! Arrays as C and Rust write them: numbers with commas between them, also one behind the last, in braces or brackets, with code
+//! Arrays as C and Rust write them: numbers with commas between them, also one after the last, in braces or brackets, with code
 //! before them, or without. What follows the closing one is not read.
 
 use super::{Fault, Form, Why, digits, is_blank, pair};
@@ -36,7 +36,7 @@ pub fn read(text: &[u8], language: Language) -> Result<Vec<u8>, Fault> {
     }
 }
 
-/// The bytes of the list whose first number stands here or later, and where it ends: behind the closing sign, or with the text
+/// The bytes of the list whose first number stands here or later, and where it ends: after the closing sign, or with the text
 /// where none opens it.
 fn listed(text: &[u8], (from, opened): (usize, Option<(usize, u8)>), language: Language) -> Result<(Vec<u8>, usize), Fault> {
     let ends = |at: usize| opened.map_or(at == text.len(), |(_, close)| text.get(at) == Some(&close));
@@ -109,7 +109,7 @@ fn in_macro(text: &[u8]) -> Option<usize> {
     left.iter().position(|byte| is_told && *byte == b'{')
 }
 
-/// A text in which blanks stand for its comments, at the same places.
+/// Returns the text with each comment replaced by as many blanks.
 fn without_comments(text: &[u8]) -> Result<Vec<u8>, Fault> {
     let (mut kept, mut at) = (Vec::with_capacity(text.len()), 0);
     while at < text.len() {
@@ -121,8 +121,8 @@ fn without_comments(text: &[u8]) -> Result<Vec<u8>, Fault> {
     Ok(kept)
 }
 
-/// A text in which blanks stand for what says no list, at the same places: comments, texts, characters, lines of C's
-/// preprocessor, attributes of Rust. An open comment or attribute ends it, and is its fault.
+/// Returns the text with blanks in place of what is no list: comments, texts, characters, lines of C's preprocessor,
+/// attributes of Rust. An open comment or attribute ends it, and is its fault.
 fn bare(text: &[u8], language: Language) -> (Vec<u8>, Result<(), Fault>) {
     let mut kept = Vec::with_capacity(text.len());
     // The attribute that is open, and how many brackets are in it.
@@ -165,8 +165,8 @@ fn left_out(text: &[u8], at: usize, language: Language) -> Result<usize, Fault> 
     })
 }
 
-/// The length of the text in quotes that these bytes begin with; all of them where it does not end. One of Rust is raw behind an
-/// `r` and as many `#` as stand behind it.
+/// The length of the text in quotes that these bytes begin with; all of them where it does not end. One of Rust is raw after an
+/// `r` and as many `#` as stand after it.
 fn quoted_len(before: &[u8], text: &[u8]) -> usize {
     let hashes = before.iter().rev().take_while(|byte| **byte == b'#').count();
     if before[..before.len() - hashes].ends_with(b"r") {
@@ -203,7 +203,7 @@ fn line_len(text: &[u8]) -> usize {
     (0..text.len()).find(ends).unwrap_or(text.len())
 }
 
-/// Where the list of C begins that is in braces: at the first brace that begins an initializer, which stands behind `=`, the type of
+/// Where the list of C begins that is in braces: at the first brace that begins an initializer, which follows `=`, the type of
 /// an array or nothing. There is none in a text that begins with a digit.
 fn brace(bare: &[u8]) -> Option<usize> {
     let is_initializer = |before: &[u8]| match before.trim_ascii_end() {
@@ -227,9 +227,9 @@ fn is_array(before: &[u8]) -> bool {
     }
 }
 
-/// Where the list of Rust begins: at the first bracket in which a number stands behind the bracket itself or a comma, and which no
-/// word stands before, as before an index; else at the first that holds nothing, and that stands behind `=`, `= &` or nothing. (In
-/// a type, a number stands behind a semicolon.)
+/// Where the list of Rust begins: at the first bracket in which a number follows the bracket itself or a comma, and which no
+/// word stands before, as before an index; else at the first that holds nothing, and that follows `=`, `= &` or nothing. (In
+/// a type, a number follows a semicolon.)
 fn bracket(bare: &[u8]) -> Option<usize> {
     // How many brackets are open, and the first of them that may be a list, with what stands before it.
     let (mut depth, mut list, mut empty, mut before) = (0_usize, None, None, [b'='; 2]);
@@ -295,7 +295,7 @@ fn word_at(text: &[u8], at: usize) -> &[u8] {
 }
 
 /// The byte that a word writes: `0x` and hex digits, or decimal digits without a 0 in front. In Rust also binary and octal digits,
-/// a 0 in front, `_` between digits, and `u8` behind them.
+/// a 0 in front, `_` between digits, and `u8` after them.
 fn byte_of(word: &[u8], language: Language) -> Option<u8> {
     let word = core::str::from_utf8(word).ok().filter(|word| !word.starts_with('+'))?;
     if language == Language::Rust {

@@ -17,7 +17,7 @@ struct Dumped {
     bytes: Vec<u8>,
     /// The offset of the first line.
     first: Option<u64>,
-    /// The length of the line before, and whether a `*` stands behind it.
+    /// The length of the line before, and whether a `*` follows.
     last: usize,
     is_repeated: bool,
 }
@@ -59,7 +59,7 @@ impl Dumped {
         Ok(())
     }
 
-    /// Takes what stands behind an offset.
+    /// Takes what follows an offset.
     fn take(&mut self, at: usize, rest: &[u8], dump: Dump) -> Result<(), Fault> {
         let start = self.bytes.len();
         let end = match dump {
@@ -85,7 +85,7 @@ impl Dumped {
     }
 }
 
-/// The characters that stand for bytes.
+/// Returns the column of characters that a dump shows beside the bytes: a dot for a byte that is no printable character.
 fn characters(bytes: &[u8]) -> Vec<u8> {
     bytes.iter().map(|byte| if matches!(byte, b' '..=b'~') { *byte } else { b'.' }).collect()
 }
@@ -101,7 +101,7 @@ fn offset_of(line: &[u8], dump: Dump) -> Option<(u64, usize)> {
     ends.then_some((offset, len + usize::from(dump == Dump::Xxd)))
 }
 
-/// The tool whose mark a line bears: a colon behind the offset, or characters between bars.
+/// The tool whose mark a line bears: a colon after the offset, or characters between bars.
 pub fn marked(line: &[u8]) -> Option<Form> {
     let is_long = |len: usize| len >= 7;
     if offset_of(line, Dump::Xxd).is_some_and(|(_, end)| is_long(end - 1)) {
@@ -111,7 +111,7 @@ pub fn marked(line: &[u8]) -> Option<Form> {
     offset_of(line, Dump::Hexdump).filter(|_| has_bars).map(|_| Form::Hexdump)
 }
 
-/// Whether a text begins as `hexdump` and `od` print words: with an offset of six or seven digits, and a word behind it.
+/// Whether a text begins as `hexdump` and `od` print words: with an offset of six or seven digits, and a word after it.
 pub fn is_of_words(text: &[u8]) -> bool {
     let begins = text.starts_with(b"000000 ") || text.starts_with(b"0000000 ");
     begins && text.iter().all(|byte| digit(*byte).is_some() || byte.is_ascii_whitespace() || *byte == b'*')

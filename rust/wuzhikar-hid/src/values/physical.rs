@@ -119,7 +119,7 @@ impl Detail {
 }
 
 impl Physical {
-    /// Returns the value as a decimal, cut off after so many digits behind the point, at most 18.
+    /// Returns the value as a decimal, cut to so many digits after the point, at most 18.
     ///
     /// `e` and the power of ten follow if that is beyond 18 either way, or the whole would have more than 38 digits.
     pub fn decimal(&self, digits: u32) -> String {
@@ -154,7 +154,7 @@ impl Physical {
     }
 }
 
-/// The digits behind the point of a fraction below 1, at most so many, without zeros at the end: their number, and how many
+/// The digits after the point of a fraction below 1, at most so many, without zeros at the end: their number, and how many
 /// they are.
 fn digits_behind(mut rest: u128, below: u128, most: u32) -> (u64, usize) {
     let (mut number, mut count) = (0u64, 0);

@@ -39,7 +39,7 @@ fn put_bits(bytes: &mut [u8], from: u64, bits: impl Iterator<Item = bool>) {
 }
 
 impl Reader {
-    /// A field of a whole report, and the report's bytes behind its ID.
+    /// A field of a whole report, and the report's bytes after its ID.
     fn field_in<'b>(&self, kind: Kind, report: &'b mut [u8], field: usize) -> Result<(Field, &'b mut [u8]), RawError> {
         self.read(kind, report).map_err(RawError::Report)?;
         let ids = usize::from(self.descriptor().uses_ids());
@@ -83,7 +83,7 @@ impl Reader {
     }
 
     /// Puts bytes into a field from its first bit on, whatever its places and extents are; no other bit changes. Bits of the
-    /// last byte behind the field's end have to be 0.
+    /// last byte after the field's end have to be 0.
     ///
     /// # Errors
     ///
@@ -112,7 +112,7 @@ impl Reader {
         Ok(())
     }
 
-    /// Returns a report of this kind and ID (0 without Report IDs) with these bytes behind the ID, and 0 where there are fewer.
+    /// Returns a report of this kind and ID (0 without Report IDs) with these bytes after the ID, and 0 where there are fewer.
     ///
     /// # Errors
     ///

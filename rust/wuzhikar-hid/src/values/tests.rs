@@ -140,7 +140,7 @@ fn a_field_has_more_than_256_places() {
     assert_eq!(told(2, 1_022), Some((Some(0xff00_0001), 128, Within::Null)));
     assert_eq!(told(2, 1_023), Some((Some(0xff00_0001), -2, Within::Range)));
     assert_eq!(report.len(), 1_490);
-    // Place 256 of the first field has bits 768 to 770; the last place of the last one begins at bit 11,906, behind 10b of a null.
+    // Place 256 of the first field has bits 768 to 770; the last place of the last one begins at bit 11,906, after 10b of a null.
     assert_eq!((report[96], &report[1_488..]), (0x05, &[0xf9, 0x07][..]));
 }
 

@@ -15,14 +15,14 @@ impl core::fmt::Display for AllocError {
 
 impl core::error::Error for AllocError {}
 
-/// What is never refused is an `AllocError` too.
+/// Makes an `AllocError` of the error of a call that can't fail.
 impl From<core::convert::Infallible> for AllocError {
     fn from(never: core::convert::Infallible) -> AllocError {
         match never {}
     }
 }
 
-/// As the source's.
+/// Makes an `AllocError` of std's error of a refused growth.
 impl From<::alloc::collections::TryReserveError> for AllocError {
     fn from(_: ::alloc::collections::TryReserveError) -> AllocError {
         AllocError

@@ -172,7 +172,7 @@ fn call<D: Defaults>(keyboard: &mut KeyboardOf<D>, cells: &mut Cells, [kind, one
     }
 }
 
-/// Makes the same calls of both, each on its own copy of the flash.
+/// Makes the same calls on both, each with its own copy of the flash.
 fn play<D: Defaults>(draw: &mut Draw, (one, other): (&mut KeyboardOf<D>, &mut KeyboardOf<D>), cells: &Cells) {
     let (mut cells, mut copy) = (cells.clone(), cells.clone());
     assert_eq!(shown(one), shown(other));

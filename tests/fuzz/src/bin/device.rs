@@ -13,7 +13,7 @@ type Fuzzed = Device<'static, SimFlash>;
 
 fn tokens(bytes: &[u8]) {
     let mut bytes = Bytes(bytes);
-    let pages = 2 + usize::from(bytes.one() % 7);
+    let pages = 2 + usize::from(bytes.next_byte() % 7);
     let mut device = Device::start(SimFlash::blank(pages).expect("memory"), &Product::TEST).expect("2 to 8 pages");
     while !bytes.is_empty() {
         token(&mut device, &mut bytes);
@@ -21,11 +21,11 @@ fn tokens(bytes: &[u8]) {
 }
 
 fn token(device: &mut Fuzzed, bytes: &mut Bytes<'_>) {
-    match bytes.one() % 16 {
+    match bytes.next_byte() % 16 {
         0..3 => device.setup(bytes.array()),
         3..5 => {
-            let count = usize::from(bytes.one() % 10);
-            let _answer = device.out(bytes.some(count));
+            let count = usize::from(bytes.next_byte() % 10);
+            let _answer = device.out(bytes.take(count));
         }
         5..8 => drop(device.in_packet()),
         8 => drop(device.poll()),

@@ -9,8 +9,8 @@ fuzz::target!(descriptor_and_report);
 
 fn descriptor_and_report(bytes: &[u8]) {
     let mut bytes = Bytes(bytes);
-    let length = usize::from(bytes.one()) * 2;
-    let text = bytes.some(length);
+    let length = usize::from(bytes.next_byte()) * 2;
+    let text = bytes.take(length);
     let lenient = Reader::lenient(text);
     let Ok(reader) = Reader::new(text) else { return };
     let (same, _) = lenient.expect("lenient takes what is without fault");

@@ -13,11 +13,11 @@ type Values = BTreeMap<u16, Vec<u8>>;
 
 fn changes(bytes: &[u8]) {
     let mut bytes = Bytes(bytes);
-    let pages = 2 + usize::from(bytes.one() % 3);
+    let pages = 2 + usize::from(bytes.next_byte() % 3);
     let mut image = vec![0xFF; 4096 * pages];
     // One in four starts on a flash with something on it.
-    if bytes.one() % 4 == 0 {
-        let some = bytes.some(64);
+    if bytes.next_byte() % 4 == 0 {
+        let some = bytes.take(64);
         image[..some.len()].copy_from_slice(some);
         image[4096..4096 + some.len()].copy_from_slice(some);
     }
@@ -35,7 +35,7 @@ fn values_of(settings: &FlashSettings<SimFlash>) -> Values {
 }
 
 fn change(mut settings: FlashSettings<SimFlash>, values: &mut Values, bytes: &mut Bytes<'_>) -> FlashSettings<SimFlash> {
-    let how = bytes.one();
+    let how = bytes.next_byte();
     let changes: Vec<Change> = (0..1 + how / 64).map(|_| drawn(bytes)).collect();
     let done = match how % 8 {
         0..3 => settings.transaction(&changes),
@@ -68,6 +68,6 @@ fn change(mut settings: FlashSettings<SimFlash>, values: &mut Values, bytes: &mu
 }
 
 fn drawn(bytes: &mut Bytes<'_>) -> Change {
-    let (id, length) = (u16::from(bytes.one() % 5), usize::from(bytes.one() % 80));
-    Change { id, value: if length == 79 { None } else { Value::new(bytes.some(length.min(64))) } }
+    let (id, length) = (u16::from(bytes.next_byte() % 5), usize::from(bytes.next_byte() % 80));
+    Change { id, value: if length == 79 { None } else { Value::new(bytes.take(length.min(64))) } }
 }

@@ -1,5 +1,5 @@
 // SPDX-License-Identifier: MIT OR Apache-2.0
-//! Cells in memory, which stand for a chip's flash and its registers.
+//! Cells in memory, in place of a chip's flash and its registers.
 
 use wuzhikar_log::{EccFlash, FlashFault, NorFlash, PAGE_SLOTS, PAGE_UNITS, SLOT_BYTES};
 

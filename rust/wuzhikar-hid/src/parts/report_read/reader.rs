@@ -8,7 +8,7 @@ use crate::parts::report_read::reading::Reading;
 use wuzhikar_reader::parts::descriptor_parse::beside::Refusal;
 use wuzhikar_reader::parts::descriptor_parse::{Descriptor, Kind};
 use crate::parts::field_details::{Details, Placed, parse_details};
-use crate::parts::report_write::kept_fields;
+use crate::parts::report_write::kept_at;
 use crate::rattle::alloc::{AllocError, Global};
 
 /// A report: its bytes, 0 where there is none, and its fields.
@@ -171,16 +171,55 @@ fn all_plans(
     descriptor: &Descriptor,
     null_states: &[bool],
 ) -> Result<crate::rattle::Vec<Plans>, AllocError> {
+    let mut by_id = empty_plans(alloc, descriptor)?;
+    for number in 0..descriptor.fields().len() {
+        add_field(descriptor, null_states, number, &mut by_id)?;
+    }
+    Ok(by_id)
+}
+
+/// The reports by their IDs, without their fields.
+fn empty_plans(alloc: Global, descriptor: &Descriptor) -> Result<crate::rattle::Vec<Plans>, AllocError> {
     let rows = rows_of(descriptor);
     let mut by_id = crate::rattle::vec::with_capacity(alloc, rows as usize)?;
     for id in 0..rows {
         by_id.push_in(Plans {
-            input: plan_of(alloc, descriptor, null_states, Kind::Input, id as u8)?,
-            output: plan_of(alloc, descriptor, null_states, Kind::Output, id as u8)?,
-            feature: plan_of(alloc, descriptor, null_states, Kind::Feature, id as u8)?,
+            input: empty_plan(alloc, descriptor, Kind::Input, id as u8),
+            output: empty_plan(alloc, descriptor, Kind::Output, id as u8),
+            feature: empty_plan(alloc, descriptor, Kind::Feature, id as u8),
         })?;
     }
     Ok(by_id)
+}
+
+/// The report of a kind and ID, without its fields.
+fn empty_plan(alloc: Global, descriptor: &Descriptor, kind: Kind, id: u8) -> Plan {
+    Plan {
+        len: descriptor.report_len(kind, id).unwrap_or(0),
+        lanes: crate::rattle::vec::new(alloc),
+    }
+}
+
+/// Adds a field to its report, which has those before it.
+fn add_field(
+    descriptor: &Descriptor,
+    null_states: &[bool],
+    number: usize,
+    by_id: &mut [Plans],
+) -> Result<(), AllocError> {
+    let kept = kept_at(descriptor, null_states, number);
+    let lane = Lane::new(descriptor, &kept);
+    push_lane(&mut by_id[kept.field.id as usize], kept.field.kind, lane)
+}
+
+/// Adds a field to the report of a kind.
+fn push_lane(plans: &mut Plans, kind: Kind, lane: Lane) -> Result<(), AllocError> {
+    match kind {
+        Kind::Input => plans.input.lanes.push_in(lane)?,
+        Kind::Output => plans.output.lanes.push_in(lane)?,
+        Kind::Feature => plans.feature.lanes.push_in(lane)?,
+    }
+    Ok(())
 }
 
 /// How many IDs there are up to the last that a field has.
@@ -190,42 +229,6 @@ fn rows_of(descriptor: &Descriptor) -> u16 {
         rows = rows.max(field.id as u16 + 1);
     }
     rows
-}
-
-/// The report of a kind and ID.
-fn plan_of(
-    alloc: Global,
-    descriptor: &Descriptor,
-    null_states: &[bool],
-    kind: Kind,
-    id: u8,
-) -> Result<Plan, AllocError> {
-    match descriptor.report_len(kind, id) {
-        None => Ok(Plan {
-            len: 0,
-            lanes: crate::rattle::vec::new(alloc),
-        }),
-        Some(len) => Ok(Plan {
-            len,
-            lanes: lanes_of(alloc, descriptor, null_states, kind, id)?,
-        }),
-    }
-}
-
-/// The fields of a report.
-fn lanes_of(
-    alloc: Global,
-    descriptor: &Descriptor,
-    null_states: &[bool],
-    kind: Kind,
-    id: u8,
-) -> Result<crate::rattle::Vec<Lane>, AllocError> {
-    let kept = kept_fields(alloc, descriptor, null_states, kind, id)?;
-    let mut lanes = crate::rattle::vec::with_capacity(alloc, kept.len())?;
-    for one in &kept {
-        lanes.push_in(Lane::new(descriptor, one))?;
-    }
-    Ok(lanes)
 }
 
 #[allow(unused_imports)]

@@ -39,6 +39,15 @@ pub fn kept_fields(
     Ok(kept)
 }
 
+/// A field of the descriptor, with its number.
+pub fn kept_at(descriptor: &Descriptor, null_states: &[bool], number: usize) -> Kept {
+    Kept {
+        number,
+        null_state: has_null_state(null_states, number),
+        field: descriptor.fields()[number],
+    }
+}
+
 /// Whether a field has Null State; one past the list has none.
 fn has_null_state(null_states: &[bool], number: usize) -> bool {
     null_states.get(number).copied().unwrap_or(false)

@@ -52,7 +52,8 @@ impl Count {
 /// A pair of these rows as a word: keys 32 * pair to 32 * pair + 31.
 #[inline(always)]
 pub(crate) fn joined(rows: &[u16; 6], pair: usize) -> u32 {
-    rows[2 * pair] as u32 + 0x1_0000 * rows[2 * pair + 1] as u32
+    let row = 2 * pair as u8;
+    rows[row as usize] as u32 + 0x1_0000 * rows[(row + 1) as usize] as u32
 }
 
 /// The rows of three pairs.

@@ -69,11 +69,11 @@ pub fn bitmap(usages: &Usages) -> [u8; 23] {
 pub fn consumer(usages: &Usages) -> [u8; 9] {
     let mut bytes = [CONSUMER_ID, 0, 0, 0, 0, 0, 0, 0, 0];
     let mut from = 1;
-    for place in 0..4 {
+    for place in 0..4u8 {
         match usages.next_consumer(from) {
             Some(usage) => {
-                bytes[2 * place + 1] = (usage % 256) as u8;
-                bytes[2 * place + 2] = (usage / 256) as u8;
+                bytes[(2 * place + 1) as usize] = (usage % 256) as u8;
+                bytes[(2 * place + 2) as usize] = (usage / 256) as u8;
                 from = usage + 1;
             },
             None => return bytes,

@@ -1,5 +1,5 @@
 //! Reads a report so many times by a kept reader, writes one, or parses a descriptor, for a count of instructions: `count read
-//! HEX HEX TIMES`, `count write HEX TIMES`, `count details HEX TIMES`, `count parse HEX TIMES`.
+//! HEX HEX TIMES`, `count write HEX TIMES`, `count new HEX TIMES`, `count details HEX TIMES`, `count parse HEX TIMES`.
 #![forbid(unsafe_code)]
 
 use std::hint::black_box;
@@ -9,13 +9,15 @@ fn bytes_of(hex: &str) -> Vec<u8> {
     (0..hex.len() / 2).map(|at| u8::from_str_radix(&hex[2 * at..2 * at + 2], 16).expect("hex")).collect()
 }
 
-/// The usages of the places of the first field of input reports, or as many as there are places of its list, each set to 1: the
-/// places of a Variable field by what they have, those of an Array by what is put into it.
+/// The usages of the places of each field, or as many as there are places of its list, each set to 1: the places of a Variable field
+/// by what they have, those of an Array by what is put into it.
 fn settings(reader: &Reader) -> Vec<Setting> {
-    let field = reader.descriptor().fields()[0];
-    let usage = |place: u16| reader.descriptor().usage(0, place.into()).expect("a usage");
-    (0..field.count)
-        .map(|place| Setting { target: Target::Usage { usage: usage(place), place: 0 }, asked: Asked::Value(1) })
+    let descriptor = reader.descriptor();
+    let places = |number: usize| (0..descriptor.fields()[number].count).map(move |place| (number, place));
+    (0..descriptor.fields().len())
+        .flat_map(places)
+        .map(|(number, place)| descriptor.usage(number, place.into()).expect("a usage"))
+        .map(|usage| Setting { target: Target::Usage { usage, place: 0 }, asked: Asked::Value(1) })
         .collect()
 }
 
@@ -32,6 +34,12 @@ fn main() {
     if words[1] == "parse" {
         for _ in 0..times {
             black_box(wuzhikar_reader::parse(black_box(&text)).expect("a descriptor"));
+        }
+        return;
+    }
+    if words[1] == "new" {
+        for _ in 0..times {
+            black_box(Reader::new(black_box(&text)).expect("a descriptor"));
         }
         return;
     }
