@@ -10,7 +10,6 @@ import contextlib
 import fcntl
 import functools
 import os
-import shutil
 import subprocess
 import sys
 import tomllib

@@ -29,6 +29,7 @@ WANTED = [
     ("gcc-multilib", "/usr/lib32/crt1.o"),
     ("valgrind", "valgrind"),
     ("binutils", "size"),
+    ("pyflakes3", "pyflakes3"),
     ("lld", "ld.lld"),
     ("libc6-dev", "/usr/include/stdio.h"),
     ("gcc-arm-none-eabi", "arm-none-eabi-gcc"),

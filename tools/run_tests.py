@@ -87,6 +87,7 @@ QUICK = [
     Step("a test at the largest input of each call", [*PYTHON, "tools/checks/extremes.py"]),
     Step("names of usages are those of the reader", [*PYTHON, "tools/make/usage_names.py"]),
     Step("files and functions are short", [*PYTHON, "tools/checks/shape.py"]),
+    Step("each name in Python is defined, and used", ["pyflakes3", *"bin bench c examples python tests tools web".split()], needs("pyflakes3")),
     Step("some proof reaches each lemma", [*PYTHON, "tools/checks/lemmas.py"]),
     Step("how bin/kbsim chooses", [*PYTHON, "tests/test_entry_script.py", "--quiet"]),
     Step("the pictures", [*PYTHON, "tools/make/pictures", "--check"]),

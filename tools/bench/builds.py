@@ -14,7 +14,7 @@ HERE = os.path.dirname(os.path.abspath(__file__))
 ROOT = os.path.dirname(os.path.dirname(HERE))
 sys.path.insert(0, f"{ROOT}/tools/export_rust")
 
-from room import DEBIAN_RUSTC, Room, Skipped, debian_sources
+from room import DEBIAN_RUSTC, Room, debian_sources
 
 BENCH = f"{ROOT}/bench"
 PEER = f"{ROOT}/reference/peer"

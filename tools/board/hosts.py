@@ -11,7 +11,7 @@ import lists  # noqa: E402
 import machines  # noqa: E402
 import parts  # noqa: E402
 import processes  # noqa: E402
-from processes import Over, Silent  # noqa: E402
+from processes import Silent  # noqa: E402
 
 SIZE, SERIAL = 16, "nRF51"  # those of the firmware
 MISSING = parts.Missing

@@ -3,7 +3,8 @@
 from typing import Callable, NamedTuple
 
 from faults import FAULTS, HARMLESS, is_found, plant
-from hosts import MISSING, Hosts, Over
+from hosts import MISSING, Hosts
+from processes import Over
 from rig import FIRMWARES, LOOPS, OTHER, ROOT, WITH_BUFFERS, NoTime, say
 from room import Failed
 

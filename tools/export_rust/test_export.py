@@ -213,10 +213,10 @@ class Whole(unittest.TestCase):
 
     def test_what_differs_is_reported_by_its_name(self):
         with tempfile.TemporaryDirectory() as folder:
-            for name, text in {"BY_HAND": "BY_HAND\ngone\n", "made": "new\n", "stray": "", "target/x": "", "old": "a\nb\n"}.items():
+            for name, content in {"BY_HAND": "BY_HAND\ngone\n", "made": "new\n", "stray": "", "target/x": "", "old": "a\nb\n"}.items():
                 os.makedirs(os.path.dirname(os.path.join(folder, name)), exist_ok=True)
                 with open(os.path.join(folder, name), "w", encoding="utf-8") as file:
-                    file.write(text)
+                    file.write(content)
             told = list(differing(folder, {"made": "new\n", "old": "a\nc\n", "lost": ""}))
             self.assertEqual([line.split(":")[0] for line in told], ["rust/gone", "rust/stray", "rust/lost", "rust/old"])
             self.assertIn("rust/old:2:", told[3])
@@ -234,9 +234,9 @@ class Comparison(unittest.TestCase):
     def compared(self, other, kind):
         """The status of a comparison of `cat` with another program, and what it tells."""
         with tempfile.TemporaryDirectory() as folder:
-            for name, text in (("one", "cat"), ("other", other)):
+            for name, command in (("one", "cat"), ("other", other)):
                 with open(f"{folder}/{name}", "w", encoding="utf-8") as file:
-                    file.write(f"#!/bin/sh\n{text}\n")
+                    file.write(f"#!/bin/sh\n{command}\n")
                 os.chmod(f"{folder}/{name}", 0o755)
             words = [sys.executable, "-B", f"{HERE}/compare_programs.py", f"{folder}/one", f"{folder}/other", f"--{kind}=2"]
             ran = subprocess.run(words, stdout=subprocess.PIPE, text=True)

@@ -143,7 +143,7 @@ def uefi(work, keyboards, firmware):
         hands = []
         for number, keyboard in enumerate(keyboards):
             hands.append(stack.enter_context(keyboard.at(f"{work}/uefi{number}")))
-            command += behind(number, f"{work}/uefi{number}")
+            command += keyboard_words(number, f"{work}/uefi{number}")
         machine = stack.enter_context(running(command))
         machine.until("Shell> ")
         for number, keys in enumerate(hands):

@@ -296,7 +296,8 @@ class Values:
         found, told = [], {}
         for line in said:
             word, _, rest = line.partition(" ")
-            lines = told.setdefault(rest, collections.defaultdict(list)) if word == "device" else lines
+            if word == "device":
+                lines = told.setdefault(rest, collections.defaultdict(list))
             lines[word].append(FILE.sub("FILE: ", rest))
         for name, device in self.devices.items():
             lines = told.get(name, collections.defaultdict(list))

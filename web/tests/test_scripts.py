@@ -4,7 +4,6 @@ import json
 import re
 import subprocess
 import sys
-import unittest
 
 from support import EXAMPLES, ROOT, SHOTS, PageTest, kbsim, quoted
 
