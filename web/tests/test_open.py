@@ -18,7 +18,7 @@ class Opened(PageTest):
         self.open(compose.PAGE)
 
     def test_it_says_what_it_guarantees_and_keeps_it(self):
-        self.assertIn("A key that this keyboard confirmed is never lost.", self.b.text(".lead"))
+        self.assertIn("No power loss undoes a key that this keyboard confirmed, on flash whose torn cells read the same each time.", self.b.text(".lead"))
         self.ledger("Set a key, then cut the power")
         self.assign(0, 5)
         self.good("Set key 0 on layer 0 to B: confirmed.")

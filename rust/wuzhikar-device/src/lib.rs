@@ -13,10 +13,12 @@
 //!   whole control transfer from the host's side.
 //!
 //! **What is proved.** The device layer, both buffers and what `Keys` does on the bus are exported from a proved source
-//! (`crates/usb_device`, `crates/usb_keyboard`), as the keyboard is. If the host saw a control write end, the device behind the
-//! layer has confirmed it, so a command is stored. The host takes as new each report that SET_PROTOCOL did not drop,
-//! whole and in order, whatever acknowledgements are lost. Written by hand, and tested, are how `Keys` starts, `Identity`,
-//! `Product`, `Device`, and the calls of `UsbDevice` that name the keyboard. `no_std`, no allocator, no unsafe code.
+//! (`crates/usb_device`, `crates/usb_keyboard`), as the keyboard is. For a driver that keeps the clauses of [`Controller`] and
+//! [`Buffers`]: if the host saw a control write end, the device behind the layer has confirmed it, so a command is stored. What
+//! the host got on endpoint 0, the device gave, packet by packet. The host takes as new the reports since the last bus reset, whole
+//! and in order: all, or all but the newest. Each comes once while the data toggles agree, else at least once; SET_PROTOCOL may
+//! drop one. Written by hand, and tested, are how `Keys` starts, `Identity`, `Product`, `Device`, and the calls of `UsbDevice` that
+//! name the keyboard. `no_std`, no allocator, no unsafe code.
 //!
 //! ```
 //! use wuzhikar::{Scan, SimFlash};
