@@ -53,7 +53,7 @@ KEPT_UNITS = "**Needs** a flash that [`PairedFlash::format`] made, and that noth
 
 LOG = Rules(
     name="wuzhikar-log",
-    crates=("flash_model", "records", "page_turnover", "settings", "ecc_flash", "steady_flash"),
+    crates=("flash_model", "records", "page_turnover", "settings", "settings_log", "ecc_flash", "steady_flash"),
     conditions={("flash_model", "sim"): HOSTED, ("flash_model", "masks"): HOSTED, ("ecc_flash", "witness"): LEFT_OUT,
                 ("page_turnover", "operation"): LEFT_OUT},
     hosted=frozenset({("flash_model", "sim")}),

@@ -67,6 +67,8 @@ mod face;
 mod marked_units;
 mod mend;
 mod page_count;
+#[cfg(feature = "settings")]
+pub mod paged;
 #[doc(hidden)]
 pub mod parts;
 #[cfg(test)]

@@ -8,4 +8,5 @@ pub mod flash_model;
 pub mod page_turnover;
 pub mod records;
 pub mod settings;
+pub mod settings_log;
 pub mod steady_flash;

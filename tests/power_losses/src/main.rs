@@ -1,8 +1,8 @@
 // SPDX-License-Identifier: MIT OR Apache-2.0
-//! Whether what is kept in flash outlives each loss of power: a log, settings and a keyboard, each with a ledger of what was
-//! confirmed, on flashes of many geometries, plain and with error correction.
+//! Whether what is kept in flash outlives each loss of power: a log, settings on one page and on all, and a keyboard, each with a
+//! ledger of what was confirmed, on flashes of many geometries, plain and with error correction.
 //!
-//! `power_losses [SUBJECT..] [LOSSES]`: `log`, `settings` and `keyboard`, or all of them, with so many losses of power each (100000).
+//! `power_losses [SUBJECT..] [LOSSES]`: `log`, `settings`, `paged` and `keyboard`, or all of them, with so many losses each (100000).
 //! `power_losses lives [LIVES]`: so many short lives, of each subject and of pages alone, on a flash in memory whose torn cells
 //! waver.
 #![deny(unsafe_code)] // (but for the calls of C)
@@ -26,7 +26,7 @@ use std::process::ExitCode;
 
 use flashes::{long_lives, short_lives};
 use other::Other;
-use subjects::{InC, InRust, Keyboard, Log, Pages, Settings};
+use subjects::{InC, InRust, Keyboard, Log, Paged, Pages, Settings};
 use wuzhikar::Standard;
 
 const LOSSES: u64 = 100_000;
@@ -36,15 +36,17 @@ fn lives_of(name: &str, losses: u64) -> Result<String, String> {
     match name {
         "log" => long_lives::<Log>(losses),
         "settings" => Ok(long_lives::<Settings<InRust>>(losses)? + &long_lives::<Settings<InC>>(losses.div_ceil(4))?),
+        "paged" => long_lives::<Paged>(losses),
         "keyboard" => {
             let half = losses.div_ceil(2);
             Ok(long_lives::<Keyboard<Standard>>(half)? + &long_lives::<Keyboard<Other>>(half)?)
         }
         "lives" => {
-            let kept = short_lives::<Log>(losses.div_ceil(4))? + &short_lives::<Settings<InRust>>(losses.div_ceil(4))?;
-            Ok(short_lives::<Pages>(losses.div_ceil(4))? + &kept + &short_lives::<Keyboard<Standard>>(losses.div_ceil(4))?)
+            let each = losses.div_ceil(5);
+            let kept = short_lives::<Log>(each)? + &short_lives::<Settings<InRust>>(each)? + &short_lives::<Paged>(each)?;
+            Ok(short_lives::<Pages>(each)? + &kept + &short_lives::<Keyboard<Standard>>(each)?)
         }
-        _ => Err(format!("{name:?} is no subject: log, settings, keyboard, lives")),
+        _ => Err(format!("{name:?} is no subject: log, settings, paged, keyboard, lives")),
     }
 }
 
@@ -55,7 +57,7 @@ fn asked(mut words: Vec<String>) -> (Vec<String>, u64) {
         words.pop();
     }
     if words.is_empty() {
-        words = ["log", "settings", "keyboard"].map(String::from).to_vec();
+        words = ["log", "settings", "paged", "keyboard"].map(String::from).to_vec();
     }
     (words, losses.unwrap_or(LOSSES))
 }
@@ -144,7 +146,7 @@ mod tests {
     fn words_name_subjects_and_a_number() {
         let asked_of = |words: &[&str]| asked(words.iter().map(|word| word.to_string()).collect());
         assert_eq!(asked_of(&["log", "7"]), (vec!["log".to_string()], 7));
-        assert_eq!(asked_of(&["7"]).0.len(), 3);
+        assert_eq!(asked_of(&["7"]).0.len(), 4);
         assert_eq!(asked_of(&[]).1, LOSSES);
         assert!(lives_of("locks", 1).is_err());
         assert!(matches!(lives_of("keyboard", 500), Ok(told) if told.contains("0 lost")));

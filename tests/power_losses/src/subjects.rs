@@ -3,12 +3,14 @@
 
 mod keyboard;
 mod log;
+mod paged;
 mod pages;
 mod settings;
 mod settings_in_c;
 
 pub use keyboard::Keyboard;
 pub use log::Log;
+pub use paged::Paged;
 pub use pages::Pages;
 pub use settings::{InRust, Settings};
 pub use settings_in_c::InC;
