@@ -1,11 +1,10 @@
 /* Parses a report descriptor in hex and prints what `kbsim parse` prints of it (docs/simulator.md).
  *
- * parse [TIMES] < TEXT     with TIMES parses it so many times, and prints nothing: for a count of instructions */
+ * parse < TEXT */
 #include "parser.h"
 #include <ctype.h>
 #include <inttypes.h>
 #include <stdio.h>
-#include <stdlib.h>
 
 enum { MAX_BYTES = 1 << 20, FAULT_INPUT = 1 };
 
@@ -67,24 +66,12 @@ static int print_parsed(size_t length)
     return 0;
 }
 
-static int parse_times(size_t length, long times)
-{
-    struct descriptor descriptor;
-    size_t offset;
-    while (times--) {
-        if (parse(text, length, &descriptor, &offset))
-            return FAULT_INPUT;
-        drop_descriptor(&descriptor);
-    }
-    return 0;
-}
-
-int main(int argc, char **argv)
+int main(void)
 {
     long length = read_hex();
     if (length < 0) {
         printf("fault hex\n");
         return FAULT_INPUT;
     }
-    return argc > 1 ? parse_times(length, atol(argv[1])) : print_parsed(length);
+    return print_parsed(length);
 }

@@ -14,12 +14,11 @@ import builds
 import chips
 import comparing
 import document
-import lines
-import rattle
 import reading
 import results
 import storing
 from comparing import say
+from room import Skipped
 
 FILE = f"{builds.BENCH}/results.tsv"
 
@@ -28,11 +27,11 @@ def measured_chips(target):
     """The rows of a target of the exported crate."""
     why = builds.lacks(target)
     if why:
-        raise builds.Skipped(why)
+        raise Skipped(why)
     return chips.Keyboards(builds.room(), target).rows()
 
 
-OTHERS = {**rattle.SECTIONS, **lines.SECTIONS, **reading.SECTIONS, **storing.SECTIONS}
+OTHERS = {**reading.SECTIONS, **storing.SECTIONS}
 
 
 def measured_elsewhere(name):
@@ -67,7 +66,7 @@ def measure(names):
         try:
             rows += SECTIONS[name]()
             done.append(name)
-        except builds.Skipped as lacks:
+        except Skipped as lacks:
             say(f"skipped: {name}: {lacks}")
     return rows, done
 
@@ -84,7 +83,7 @@ def write_documents(rows):
 def report(rows, done, write):
     """Prints the table, and what it differs in from the file; the exit status."""
     known = results.read(FILE)
-    rows = results.with_bounds(results.with_peers(rows, known, "rattle", rattle.peers_row), known)
+    rows = results.with_bounds(rows, known)
     print("\n".join(results.table(rows)))
     if write:
         results.write(FILE, results.merged(known, rows, done), builds.versions())

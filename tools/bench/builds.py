@@ -144,7 +144,7 @@ def versions():
     """The compilers and tools, one a line."""
     told = []
     for words in (["arm-none-eabi-gcc", "--version"], ["gcc", "--version"], [DEBIAN_RUSTC, "--version"], ["rustc", "--version"],
-                  ["qemu-arm", "--version"], ["valgrind", "--version"], ["rt", "version"]):
+                  ["qemu-arm", "--version"], ["valgrind", "--version"]):
         if shutil.which(words[0]):
             first = subprocess.run(words, capture_output=True, text=True).stdout.strip().split("\n")[0]
             told.append(first if first.startswith(os.path.basename(words[0])) else f"{os.path.basename(words[0])}: {first}")

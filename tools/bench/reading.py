@@ -3,15 +3,16 @@
 Instructions are those of callgrind, as the difference of two runs with more calls and fewer, divided by the calls.
 """
 
+import re
 import shutil
 import sys
 
-from builds import ROOT, Skipped
-from rattle import instructions
+from builds import ROOT
 from results import Row
 
 sys.path[:0] = [f"{ROOT}/tools", f"{ROOT}/tests"]
 import program_steps
+from room import Skipped
 
 # Of a keyboard in boot protocol a report of 8 bytes: left shift, and six keys.
 BOOT = "0200040506070809"
@@ -86,6 +87,13 @@ GROWING = [
     ("{} settings of as many fields", "write", fields, 127),
     ("a reader of {} reports", "new", reports, 127),
 ]
+
+
+def instructions(room, words, given):
+    """How many instructions a program takes."""
+    room.run(["valgrind", "--tool=callgrind", "--callgrind-out-file=/dev/null", f"--log-file={room.path('told')}", *words], given=given)
+    with open(room.path("told"), encoding="utf-8") as file:
+        return int(re.search(r"Collected : (\d+)", file.read())[1])
 
 
 def rows(room):

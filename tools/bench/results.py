@@ -95,13 +95,6 @@ def merged(known, rows, targets):
     return [row for target in order for row in new.get(target, [row for row in known.values() if row.target == target])]
 
 
-def with_peers(rows, known, of, by):
-    """The rows, where those of the section `of` have the peer's numbers of another section, measured with them or those of the file:
-    by says which target and row that is."""
-    measured = {**known, **{row.key: row for row in rows}}
-    return [row._replace(peer=measured[by(row.what)].peer) if row.target == of and by(row.what) in measured else row for row in rows]
-
-
 def is_near(one, other):
     """Whether two numbers differ by at most a hundredth."""
     if one is None or other is None:

@@ -6,8 +6,9 @@ Operations are counted over CHANGES changes on two pages of 4,096 bytes, each of
 
 import shutil
 
-from builds import DEBIAN_RUSTC, TARGETS, Skipped, lacks
+from builds import DEBIAN_RUSTC, TARGETS, lacks
 from results import Row
+from room import Skipped
 
 CHANGES = 60_000
 
