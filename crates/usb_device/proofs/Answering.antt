@@ -1,14 +1,14 @@
 -- What the buffers hold behind a call, by the bus and the session.
 use Rattle.std.proofs.lemmas.Grind.{common_steps}
 use Rattle.std.proofs.Common.{arith}
-use Rattle.std.proofs.Common.{◌≡◌, ℕ, Bool, false, List, ◌∷◌, Option, Some, None, refl, ap, sym, subst, ◌∙◌, inl, inr}
+use Rattle.std.proofs.Common.{◌≡◌, ℕ, Bool, true, false, List, ◌∷◌, Option, Some, None, refl, ap, sym, subst, ◌∙◌, inl, inr}
 use Rattle.usb_device.specs.Calls.{EpCall}
 use Rattle.usb_device.specs.Bus.{Bus, InMode, Naks, Sends, Stalls, OutMode, NaksOut, Takes, StallsOut, is_pending, write_of}
 use Rattle.usb_device.specs.Confirmed.{asked_of}
-use Rattle.usb_device.specs.Given.{outs_of, heard_of}
+use Rattle.usb_device.specs.Given.{is_read, outs_of, heard_of}
 use Rattle.usb_device.specs.Transfers.{TransferState, Idle, Refused, Over, Reads, ReadDue, Sent, Closing, Closed, Opening, Writes, Keeps, Asking, Due, Status, Done, IsOpen, Rests}
-use Rattle.usb_device.specs.Served.{AsksDue, HasCause, NaksFor, idle, puts_off, was_taken, has_come, awaits_data, has_given, was_ended, NaksOutFor, idle_out, puts_off_out, has_come_out, InFor, OutFor, Hears, heard_all, heard_but_new, heard_but_put_off, has_stalled, Answers}
-use Rattle.usb_device.specs.representation.Link.{ClosedIf, OnlyBy, HeardBy, IsGiven, BufferIn, PastIn, StandsOf, Stands, StageLink, Link, PutOff}
+use Rattle.usb_device.specs.Served.{AsksDue, has_refused, HasCause, NaksFor, idle, puts_off, was_taken, has_come, awaits_data, has_given, was_ended, NaksOutFor, idle_out, puts_off_out, has_come_out, InFor, OutFor, Hears, heard_all, heard_but_new, heard_but_put_off, has_stalled, Answers}
+use Rattle.usb_device.specs.representation.Link.{SoundIn, ClosedIf, OnlyBy, HeardBy, IsGiven, BufferIn, PastIn, StandsOf, Stands, StageLink, Link, PutOff}
 
 -- a stall has its cause
 stalls_in : (t : TransferState) (s : List ℕ) (b : Bus) (output : OutMode) (taken : Bool) (outs : List (List ℕ)) (calls : List EpCall) → BufferIn t Stalls output taken → Rests t b
@@ -112,6 +112,14 @@ hears Due s b calls since x r p = heard_by b.met.out s b calls since refl x.aske
 hears Status s b calls since x r p = heard_by b.met.out s b calls since refl x.asked x.heard
 hears Done s b calls since x r p = heard_by b.met.out s b calls since refl x.asked x.heard
 
+-- what the device refused is stalled
+stalls_both : (t : TransferState) (b : Bus) (refused : Bool) → SoundIn t refused → Rests t b → refused ≡ true → (b.input ≡ Stalls) × (b.output ≡ StallsOut)
+stalls_both t b refused h1 h2 h3 = grind (arith, common_steps)
+
+stalled_by : (t : TransferState) (s : List ℕ) (b : Bus) (calls : List EpCall) → StandsOf t s b calls → Rests t b → has_refused (is_read s) calls ≡ true → (b.input ≡ Stalls) × (b.output ≡ StallsOut)
+stalled_by Idle s b calls x r e = absurd x.past
+stalled_by t s b calls x r e = stalls_both t b (has_refused (is_read s) calls) x.sound r e
+
 -- all of it
 written : (t : TransferState) (s : List ℕ) (b : Bus) (calls : List EpCall) → t ≡ Writes → Link t b calls → is_pending b.met ≡ false → StandsOf t s b calls → write_of b.seen ≡ b.met.out
 written t s b calls i l p x =
@@ -126,13 +134,15 @@ answers_by t b calls since p l r o (inl x) =
     let I : InMode → Type 0 = λ y. InFor y b calls since in
     let O : OutMode → Type 0 = λ y. OutFor y b calls since in
     let none : (s : List ℕ) → asked_of calls ≡ Some s → ⊥ = λ s e. (let y : Some s ≡ None = sym e ∙ x.1 in cc) in
-    record { setup = c.setup; hands = c.hands; input = subst I (sym x.2) (idle x.1); output = subst O (sym x.3) (idle_out x.1); hears = λ s e. absurd (none s e); due = λ s e. absurd (none s e) }
+    record { setup = c.setup; hands = c.hands; input = subst I (sym x.2) (idle x.1); output = subst O (sym x.3) (idle_out x.1); refused = λ s e. absurd (none s e); hears = λ s e. absurd (none s e); due = λ s e. absurd (none s e) }
 answers_by t b calls since p l r o (inr (s, x)) =
     let c = l.current p in record {
       setup = c.setup;
       hands = c.hands;
       input = in_for b.input t s b calls since refl (λ w. written t s b calls w l p x) x r o;
       output = out_for b.output t s b calls since refl x r o;
+      refused = λ z e. (let y : Some s ≡ Some z = sym x.asked ∙ e in let same : s ≡ z = cc in
+          subst (λ y. has_refused (is_read y) calls ≡ true → (b.input ≡ Stalls) × (b.output ≡ StallsOut)) same (stalled_by t s b calls x r));
       hears = λ z e. hears t s b calls since x r o;
       due = λ z e. (let y : Some s ≡ Some z = sym x.asked ∙ e in let same : s ≡ z = cc in subst (λ y. AsksDue y (outs_of b.seen) calls) same x.due);
     }

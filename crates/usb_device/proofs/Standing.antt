@@ -11,8 +11,8 @@ use Rattle.usb_device.specs.Bus.{Bus, Seen, InGot, InMode, Naks, Sends, Stalls, 
 use Rattle.usb_device.specs.Confirmed.{asked_of}
 use Rattle.usb_device.specs.Transfers.{TransferState, Idle, Refused, Over, Reads, ReadDue, Closing, Closed, Opening, Writes, Keeps, Asking, Due, Status, Done}
 use Rattle.usb_device.specs.Given.{is_read, got_of, outs_of, given_of, heard_of, all_given, Hands, WereGiven, AllGiven}
-use Rattle.usb_device.specs.Served.{AsksDue, is_undue, is_in_due, refuses}
-use Rattle.usb_device.specs.representation.Link.{GoesOn, ClosedIf, OnlyBy, HeardBy, BufferIn, PastIn, HeardIn, Leaves, NoneDue, StandsOf, Stands, is_reading, ended}
+use Rattle.usb_device.specs.Served.{AsksDue, has_refused, is_undue, is_in_due, refuses}
+use Rattle.usb_device.specs.representation.Link.{GoesOn, SoundIn, ClosedIf, OnlyBy, HeardBy, BufferIn, PastIn, HeardIn, Leaves, NoneDue, StandsOf, Stands, is_reading, ended}
 
 -- what the host got is what the device gave
 pub were_now : (setup : List ℕ) (packets : List (List ℕ)) (calls : List EpCall) → asked_of calls ≡ Some setup → given_of calls ≡ packets → WereGiven setup packets calls
@@ -80,8 +80,8 @@ pub due_more : (s packet : List ℕ) (outs : List (List ℕ)) (calls : List EpCa
 due_more s packet outs [] d = tt
 due_more s packet outs (SetUp bytes ∷ before) d = tt
 due_more s packet outs (BusReset ∷ before) d = tt
-due_more s packet outs (In answer ∷ before) d = (d.0, due_more s packet outs before d.1)
-due_more s packet outs (Out bytes answer ∷ before) d = ((packet ∷ d.0.0, d.0.1, ap (λ x. packet ∷ x) d.0.2), due_more s packet outs before d.1)
+due_more s packet outs (In answer ∷ before) d = (d.0, d.1, due_more s packet outs before d.2)
+due_more s packet outs (Out bytes answer ∷ before) d = (d.0, (packet ∷ d.1.0, d.1.1, ap (λ x. packet ∷ x) d.1.2), due_more s packet outs before d.2)
 due_more s packet outs (Polled answer ∷ before) d = due_more s packet outs before d
 
 -- what happens on the bus
@@ -94,7 +94,7 @@ stands_taken t b calls packet has i (inr (s, x)) =
     let P : List (List ℕ) → Type 0 = λ y. PastIn t s y calls in
     let H : List (List ℕ) → Type 0 = λ y. HeardIn t s b.met.out b.output y (heard_of calls) in
     let D : List (List ℕ) → Type 0 = λ y. AsksDue s y calls in
-    inr (s, record { asked = x.asked; buffer = buffer_taken t packet has b.output b.met.taken (subst B i x.buffer); past = subst P same x.past; heard = subst H same x.heard; due = subst D same x.due })
+    inr (s, record { asked = x.asked; buffer = buffer_taken t packet has b.output b.met.taken (subst B i x.buffer); past = subst P same x.past; heard = subst H same x.heard; due = subst D same x.due; sound = x.sound })
 
 pub stands_lost : (t : TransferState) (b : Bus) (calls : List EpCall) (packet : List ℕ) (has : Bool) → b.input ≡ Sends packet has → Stands t b calls
     → Stands t (with_ack_lost b packet has) calls
@@ -105,7 +105,7 @@ stands_lost t b calls packet has i (inr (s, x)) =
     let P : List (List ℕ) → Type 0 = λ y. PastIn t s y calls in
     let H : List (List ℕ) → Type 0 = λ y. HeardIn t s b.met.out b.output y (heard_of calls) in
     let D : List (List ℕ) → Type 0 = λ y. AsksDue s y calls in
-    inr (s, record { asked = x.asked; buffer = buffer_lost t packet has b.output b.met.taken (subst B i x.buffer); past = subst P same x.past; heard = subst H same x.heard; due = subst D same x.due })
+    inr (s, record { asked = x.asked; buffer = buffer_lost t packet has b.output b.met.taken (subst B i x.buffer); past = subst P same x.past; heard = subst H same x.heard; due = subst D same x.due; sound = x.sound })
 
 pub stands_out : (t : TransferState) (b : Bus) (calls : List EpCall) (packet : List ℕ) → b.output ≡ Takes → Stands t b calls → Stands t (with_out b packet) calls
 stands_out t b calls packet o (inl x) = absurd (let y : Takes ≡ NaksOut = sym o ∙ x.3 in cc)
@@ -120,12 +120,13 @@ stands_out t b calls packet o (inr (s, x)) =
         past = past_out t s packet (outs_of b.seen) calls x.past;
         heard = heard_out t s packet b.met.out (outs_of b.seen) (heard_of calls) (subst H o x.heard);
         due = due_more s packet (outs_of b.seen) calls x.due;
+        sound = x.sound;
       },
     )
 
 pub stands_stall : (t : TransferState) (b : Bus) (calls : List EpCall) → Stands t b calls → Stands t (with_stall b) calls
 stands_stall t b calls (inl x) = inl (x.0, x.1, x.2, x.3)
-stands_stall t b calls (inr (s, x)) = inr (s, record { asked = x.asked; buffer = x.buffer; past = x.past; heard = x.heard; due = x.due })
+stands_stall t b calls (inr (s, x)) = inr (s, record { asked = x.asked; buffer = x.buffer; past = x.past; heard = x.heard; due = x.due; sound = x.sound })
 
 -- commands to the controller
 abbrev pub set_both : Bus → InMode → OutMode → Bus
@@ -147,31 +148,31 @@ pub writes_open : (b : Bus) (calls : List EpCall) → Stands Opening b calls →
 writes_open b calls (inl x) = absurd (let y : Opening ≡ Idle = x.0 in cc)
 writes_open b calls (inr (s, x)) =
     let C : Option (List ℕ) → Type 0 = λ out. ClosedIf out Takes × OnlyBy out (outs_of b.seen) (heard_of calls) in
-    inr (s, record { asked = x.asked; buffer = (x.buffer.0, goes_take b.input b.output x.buffer.1); past = x.past; heard = subst C (sym x.heard.0) (tt, x.heard.2); due = x.due })
+    inr (s, record { asked = x.asked; buffer = (x.buffer.0, goes_take b.input b.output x.buffer.1); past = x.past; heard = subst C (sym x.heard.0) (tt, x.heard.2); due = x.due; sound = x.sound })
 
 pub stays_open : (b : Bus) (calls : List EpCall) → Stands Due b calls → Stands Due (set_both b b.input Takes) calls
 stays_open b calls (inl x) = absurd (let y : Due ≡ Idle = x.0 in cc)
-stays_open b calls (inr (s, x)) = inr (s, record { asked = x.asked; buffer = (x.buffer.0, goes_take b.input b.output x.buffer.1); past = x.past; heard = x.heard; due = x.due })
+stays_open b calls (inr (s, x)) = inr (s, record { asked = x.asked; buffer = (x.buffer.0, goes_take b.input b.output x.buffer.1); past = x.past; heard = x.heard; due = x.due; sound = x.sound })
 
 pub reads_open : (left : ℕ) (b : Bus) (calls : List EpCall) → Stands (ReadDue left) b calls → Stands (ReadDue left) (set_both b b.input Takes) calls
 reads_open left b calls (inl x) = absurd (let y : ReadDue left ≡ Idle = x.0 in cc)
-reads_open left b calls (inr (s, x)) = inr (s, record { asked = x.asked; buffer = (x.buffer.0, goes_take b.input b.output x.buffer.1); past = x.past; heard = x.heard; due = x.due })
+reads_open left b calls (inr (s, x)) = inr (s, record { asked = x.asked; buffer = (x.buffer.0, goes_take b.input b.output x.buffer.1); past = x.past; heard = x.heard; due = x.due; sound = x.sound })
 
 pub ends_open : (b : Bus) (calls : List EpCall) → Stands Closing b calls → Stands Closed (set_both b b.input Takes) calls
 ends_open b calls (inl x) = absurd (let y : Closing ≡ Idle = x.0 in cc)
-ends_open b calls (inr (s, x)) = inr (s, record { asked = x.asked; buffer = goes_take b.input b.output x.buffer; past = x.past; heard = x.heard; due = x.due })
+ends_open b calls (inr (s, x)) = inr (s, record { asked = x.asked; buffer = goes_take b.input b.output x.buffer; past = x.past; heard = x.heard; due = x.due; sound = x.sound })
 
 pub asks_now : (b : Bus) (calls : List EpCall) → Stands Asking b calls → Stands Due b calls
 asks_now b calls (inl x) = absurd (let y : Asking ≡ Idle = x.0 in cc)
-asks_now b calls (inr (s, x)) = inr (s, record { asked = x.asked; buffer = x.buffer; past = x.past; heard = x.heard; due = x.due })
+asks_now b calls (inr (s, x)) = inr (s, record { asked = x.asked; buffer = x.buffer; past = x.past; heard = x.heard; due = x.due; sound = x.sound })
 
 pub stalls_now : (b : Bus) (calls : List EpCall) → Stands Refused b calls → Stands Over (set_both b Stalls b.output) calls
 stalls_now b calls (inl x) = absurd (let y : Refused ≡ Idle = x.0 in cc)
-stalls_now b calls (inr (s, x)) = inr (s, record { asked = x.asked; buffer = tt; past = x.past; heard = tt; due = x.due })
+stalls_now b calls (inr (s, x)) = inr (s, record { asked = x.asked; buffer = tt; past = x.past; heard = tt; due = x.due; sound = tt })
 
 pub stalls_on : (b : Bus) (calls : List EpCall) → Stands Over b calls → Stands Over (set_both b b.input StallsOut) calls
 stalls_on b calls (inl x) = absurd (let y : Over ≡ Idle = x.0 in cc)
-stalls_on b calls (inr (s, x)) = inr (s, record { asked = x.asked; buffer = tt; past = x.past; heard = tt; due = x.due })
+stalls_on b calls (inr (s, x)) = inr (s, record { asked = x.asked; buffer = tt; past = x.past; heard = tt; due = x.due; sound = tt })
 
 -- answers to the data of a write
 no_read : (s : List ℕ) → is_write s ≡ true → is_read s ≡ false
@@ -194,13 +195,17 @@ takes_data packet b calls (inr (s, x)) =
         buffer = x.buffer;
         past = (no_read s x.past.0, refl, data_due s packet (given_of calls) (heard_of calls) x.past.0 x.past.1);
         heard = subst H (sym x.heard.0) (inr x.heard.2);
-        due = (([], heard_of calls, x.heard.2), x.due);
+        due = (x.sound, ([], heard_of calls, x.heard.2), x.due);
+        sound = x.sound;
       },
     )
 
+put_off_sound : (s packet : List ℕ) (calls : List EpCall) → is_read s ≡ false → has_refused (is_read s) calls ≡ false → has_refused (is_read s) (Out packet Nak ∷ calls) ≡ false
+put_off_sound s packet calls r f = ap (λ x. x || has_refused (is_read s) calls) r ∙ f
+
 pub puts_data_off : (packet : List ℕ) (b : Bus) (calls : List EpCall) → Stands (Keeps packet) b calls → Stands (Keeps packet) b (Out packet Nak ∷ calls)
 puts_data_off packet b calls (inl x) = absurd (let y : Keeps packet ≡ Idle = x.0 in cc)
-puts_data_off packet b calls (inr (s, x)) = inr (s, record { asked = x.asked; buffer = x.buffer; past = x.past; heard = x.heard; due = (([], heard_of calls, x.heard.2), x.due) })
+puts_data_off packet b calls (inr (s, x)) = inr (s, record { asked = x.asked; buffer = x.buffer; past = x.past; heard = x.heard; due = (x.sound, ([], heard_of calls, x.heard.2), x.due); sound = put_off_sound s packet calls (no_read s x.past.0) x.sound })
 
 out_refuses : (read : Bool) (packet : List ℕ) (answer : EpAnswer) → (answer ≡ Ack → ⊥) → (answer ≡ Nak → ⊥) → refuses read (Out packet answer) ≡ true
 out_refuses read packet Ack a n = absurd (a refl)
@@ -227,7 +232,7 @@ pub refuses_data : (packet : List ℕ) (answer : EpAnswer) (b : Bus) (calls : Li
     → Stands Refused b (Out packet answer ∷ calls)
 refuses_data packet answer b calls a n (inl x) = absurd (let y : Keeps packet ≡ Idle = x.0 in cc)
 refuses_data packet answer b calls a n (inr (s, x)) =
-    inr (s, record { asked = x.asked; buffer = tt; past = inl (either_true _ _ (out_refuses (is_read s) packet answer a n)); heard = tt; due = (([], heard_of calls, x.heard.2), x.due) })
+    inr (s, record { asked = x.asked; buffer = tt; past = inl (either_true _ _ (out_refuses (is_read s) packet answer a n)); heard = tt; due = (x.sound, ([], heard_of calls, x.heard.2), x.due); sound = tt })
 
 -- answers to IN tokens
 abbrev pub is_due : TransferState → Bool
@@ -258,18 +263,19 @@ gives_status packet b calls (inr (s, x)) =
         buffer = (inl (packet, false, refl, x.buffer.0.1), goes_send b.input b.output packet x.buffer.1);
         past = (x.past.1, status_given s packet (given_of calls) x.past.0);
         heard = x.heard;
-        due = (x.past.2, x.due);
+        due = (x.sound, x.past.2, x.due);
+        sound = x.sound;
       },
     )
 
 pub puts_off : (b : Bus) (calls : List EpCall) → Stands Due b calls → Stands Due b (In Nak ∷ calls)
 puts_off b calls (inl x) = absurd (let y : Due ≡ Idle = x.0 in cc)
-puts_off b calls (inr (s, x)) = inr (s, record { asked = x.asked; buffer = x.buffer; past = x.past; heard = x.heard; due = (x.past.2, x.due) })
+puts_off b calls (inr (s, x)) = inr (s, record { asked = x.asked; buffer = x.buffer; past = x.past; heard = x.heard; due = (x.sound, x.past.2, x.due); sound = x.sound })
 
 pub refuses_status : (answer : EpAnswer) (b : Bus) (calls : List EpCall) → ((packet : _) → answer ≡ Packet packet → ⊥) → (answer ≡ Nak → ⊥) → Stands Due b calls → Stands Refused b (In answer ∷ calls)
 refuses_status answer b calls k n (inl x) = absurd (let y : Due ≡ Idle = x.0 in cc)
 refuses_status answer b calls k n (inr (s, x)) =
-    inr (s, record { asked = x.asked; buffer = tt; past = inl (either_true _ _ (in_refuses (is_read s) answer k n)); heard = tt; due = (x.past.2, x.due) })
+    inr (s, record { asked = x.asked; buffer = tt; past = inl (either_true _ _ (in_refuses (is_read s) answer k n)); heard = tt; due = (x.sound, x.past.2, x.due); sound = tt })
 
 -- those of a read
 read_due : (s : List ℕ) (given heard : List (List ℕ)) → is_read s ≡ true → heard ≡ [] → all_given s given ≡ false → is_in_due s given heard ≡ true
@@ -316,14 +322,15 @@ gives_read left rest packet b calls l (inr (s, x)) =
         buffer = (inl (packet, false, refl, x.buffer.0.1), goes_send b.input b.output packet x.buffer.1);
         past = (x.past.0, x.past.1, leaves s packet left rest (given_of calls) x.past.0 l x.past.3);
         heard = x.heard;
-        due = (read_due s (given_of calls) (heard_of calls) x.past.0 x.past.1 x.past.2, x.due);
+        due = (x.sound, read_due s (given_of calls) (heard_of calls) x.past.0 x.past.1 x.past.2, x.due);
+        sound = x.sound;
       },
     )
 
 pub puts_read_off : (left : ℕ) (b : Bus) (calls : List EpCall) → Stands (ReadDue left) b calls → Stands (ReadDue left) b (In Nak ∷ calls)
 puts_read_off left b calls (inl x) = absurd (let y : ReadDue left ≡ Idle = x.0 in cc)
 puts_read_off left b calls (inr (s, x)) =
-    inr (s, record { asked = x.asked; buffer = x.buffer; past = x.past; heard = x.heard; due = (read_due s (given_of calls) (heard_of calls) x.past.0 x.past.1 x.past.2, x.due) })
+    inr (s, record { asked = x.asked; buffer = x.buffer; past = x.past; heard = x.heard; due = (x.sound, read_due s (given_of calls) (heard_of calls) x.past.0 x.past.1 x.past.2, x.due); sound = x.sound })
 
 pub refuses_read : (left : ℕ) (answer : EpAnswer) (b : Bus) (calls : List EpCall) → ((packet : _) → answer ≡ Packet packet → ⊥) → (answer ≡ Nak → ⊥) → Stands (ReadDue left) b calls
     → Stands Refused b (In answer ∷ calls)
@@ -336,7 +343,8 @@ refuses_read left answer b calls k n (inr (s, x)) =
         buffer = tt;
         past = inl (either_true _ _ (in_refuses (is_read s) answer k n));
         heard = tt;
-        due = (read_due s (given_of calls) (heard_of calls) x.past.0 x.past.1 x.past.2, x.due);
+        due = (x.sound, read_due s (given_of calls) (heard_of calls) x.past.0 x.past.1 x.past.2, x.due);
+        sound = tt;
       },
     )
 
@@ -351,17 +359,20 @@ reading_past t s outs calls h1 h2 = grind (arith, common_steps)
 reading_goes : (t : TransferState) (input : InMode) (output : OutMode) (taken : Bool) → is_reading t ≡ true → BufferIn t input output taken → GoesOn input output
 reading_goes t input output taken h1 h2 = grind (arith, common_steps)
 
+reading_sound : (t : TransferState) (refused : Bool) → is_reading t ≡ true → SoundIn t refused → refused ≡ false
+reading_sound t refused h1 h2 = grind (arith, common_steps)
+
 heard_rest : (s packet : List ℕ) (outs rest heard : List (List ℕ)) → outs ≡ packet ∷ rest → (is_undue s outs ≡ true) ⊎ (rest ≡ heard) → HeardBy s None outs (packet ∷ heard)
 heard_rest s packet outs rest heard e (inl u) = inl u
 heard_rest s packet outs rest heard e (inr f) = inr (e ∙ ap (λ x. packet ∷ x) f)
 
 closes_by : (s packet : List ℕ) (answer : EpAnswer) (b : Bus) (calls : List EpCall) → asked_of calls ≡ Some s → is_read s ≡ true → GoesOn b.input b.output
-    → HeardBy s (Some packet) (outs_of b.seen) (heard_of calls) → AsksDue s (outs_of b.seen) calls → StandsOf (ended answer) s (looked b) (Out packet answer ∷ calls)
-closes_by s packet Ack b calls a r g h d =
-    record { asked = a; buffer = g; past = (r, packet, heard_of calls, refl); heard = heard_rest s packet (outs_of b.seen) h.0 (heard_of calls) h.1 h.2; due = (([], h.0, h.1), d) }
-closes_by s packet Nak b calls a r g h d = record { asked = a; buffer = tt; past = inl (either_true _ _ r); heard = tt; due = (([], h.0, h.1), d) }
-closes_by s packet (Packet bytes) b calls a r g h d = record { asked = a; buffer = tt; past = inl refl; heard = tt; due = (([], h.0, h.1), d) }
-closes_by s packet Stall b calls a r g h d = record { asked = a; buffer = tt; past = inl refl; heard = tt; due = (([], h.0, h.1), d) }
+    → HeardBy s (Some packet) (outs_of b.seen) (heard_of calls) → has_refused (is_read s) calls ≡ false → AsksDue s (outs_of b.seen) calls → StandsOf (ended answer) s (looked b) (Out packet answer ∷ calls)
+closes_by s packet Ack b calls a r g h f d =
+    record { asked = a; buffer = g; past = (r, packet, heard_of calls, refl); heard = heard_rest s packet (outs_of b.seen) h.0 (heard_of calls) h.1 h.2; due = (f, ([], h.0, h.1), d); sound = f }
+closes_by s packet Nak b calls a r g h f d = record { asked = a; buffer = tt; past = inl (either_true _ _ r); heard = tt; due = (f, ([], h.0, h.1), d); sound = tt }
+closes_by s packet (Packet bytes) b calls a r g h f d = record { asked = a; buffer = tt; past = inl refl; heard = tt; due = (f, ([], h.0, h.1), d); sound = tt }
+closes_by s packet Stall b calls a r g h f d = record { asked = a; buffer = tt; past = inl refl; heard = tt; due = (f, ([], h.0, h.1), d); sound = tt }
 
 pub closes_stands : (t : TransferState) (packet : List ℕ) (answer : EpAnswer) (b : Bus) (calls : List EpCall) → is_reading t ≡ true → b.met.out ≡ Some packet → Stands t b calls
     → Stands (ended answer) (looked b) (Out packet answer ∷ calls)
@@ -372,7 +383,7 @@ closes_stands t packet answer b calls i o (inr (s, x)) =
     inr (
       s,
       closes_by s packet answer b calls x.asked (reading_past t s (outs_of b.seen) calls i x.past) (reading_goes t b.input b.output b.met.taken i x.buffer)
-          (subst H o (reading_heard t s b.met.out b.output (outs_of b.seen) (heard_of calls) i x.heard)) x.due,
+          (subst H o (reading_heard t s b.met.out b.output (outs_of b.seen) (heard_of calls) i x.heard)) (reading_sound t (has_refused (is_read s) calls) i x.sound) x.due,
     )
 
 -- a packet that is not due
@@ -405,7 +416,7 @@ undue_stands t packet b calls i o (inl x) =
 undue_stands t packet b calls i o (inr (s, x)) =
     let H : Option (List ℕ) → Type 0 = λ y. HeardBy s y (outs_of b.seen) (heard_of calls) in
     let h = subst H o (ended_heard t s b.met.out b.output (outs_of b.seen) (heard_of calls) i x.heard) in
-    inr (s, record { asked = x.asked; buffer = tt; past = inr (undue_now s packet (outs_of b.seen) h.0 (heard_of calls) h.1 (ended_past t s (outs_of b.seen) calls i x.past) h.2); heard = tt; due = x.due })
+    inr (s, record { asked = x.asked; buffer = tt; past = inr (undue_now s packet (outs_of b.seen) h.0 (heard_of calls) h.1 (ended_past t s (outs_of b.seen) calls i x.past) h.2); heard = tt; due = x.due; sound = tt })
 
 -- a SETUP packet was met
 kinds : (s : List ℕ) (out zero : Bool) → is_out s ≡ out → (word_at s 6 == 0) ≡ zero → (is_write s ≡ (out && not zero)) × (is_read s ≡ (not out && not zero))
@@ -423,15 +434,15 @@ begins_by : (out zero : Bool) (u : TransferState) (s : List ℕ) (b : Bus) (call
 begins_by true false u s b calls h z i o e w r a =
     let S : TransferState → Type 0 = λ x. StandsOf x s (looked b) (SetUp s ∷ calls) in
     let is = (kinds s true false h z).0 in
-    subst S (sym (w is)) (record { asked = refl; buffer = ((i, refl), rw i (rw o tt)); past = (is, refl); heard = (refl, rw o tt, e); due = tt })
+    subst S (sym (w is)) (record { asked = refl; buffer = ((i, refl), rw i (rw o tt)); past = (is, refl); heard = (refl, rw o tt, e); due = tt; sound = refl })
 begins_by false false u s b calls h z i o e w r a =
     let S : TransferState → Type 0 = λ x. StandsOf x s (looked b) (SetUp s ∷ calls) in
     let is = (kinds s false false h z).1 in
-    subst S (sym (r is)) (record { asked = refl; buffer = ((i, refl), rw i (rw o tt)); past = (is, refl, refl, grind (arith, common_steps)); heard = inr e; due = tt })
+    subst S (sym (r is)) (record { asked = refl; buffer = ((i, refl), rw i (rw o tt)); past = (is, refl, refl, grind (arith, common_steps)); heard = inr e; due = tt; sound = refl })
 begins_by out true u s b calls h z i o e w r a =
     let S : TransferState → Type 0 = λ x. StandsOf x s (looked b) (SetUp s ∷ calls) in
     let is = kinds s out true h z in
-    subst S (sym (a z)) (record { asked = refl; buffer = ((i, refl), rw i (rw o tt)); past = (no_data_read s z, z, no_data_due s z); heard = inr e; due = tt })
+    subst S (sym (a z)) (record { asked = refl; buffer = ((i, refl), rw i (rw o tt)); past = (no_data_read s z, z, no_data_due s z); heard = inr e; due = tt; sound = refl })
 
 pub begins_stands : (u : TransferState) (s : List ℕ) (b : Bus) (calls : List EpCall) → b.input ≡ Naks → b.output ≡ NaksOut → outs_of b.seen ≡ []
     → (is_write s ≡ true → u ≡ Opening) → (is_read s ≡ true → u ≡ ReadDue (word_at s 6)) → ((word_at s 6 == 0) ≡ true → u ≡ Asking)
@@ -442,6 +453,10 @@ begins_stands u s b calls i o e w r a = inr (s, begins_by (is_out s) (word_at s 
 polled_past : (t : TransferState) (s : List ℕ) (outs : List (List ℕ)) (answer : Option (List ℕ)) (calls : List EpCall) → PastIn t s outs calls → PastIn t s outs (Polled answer ∷ calls)
 polled_past t s outs answer calls h1 = grind (arith, common_steps)
 
+polled_sound : (t : TransferState) (s : List ℕ) (answer : Option (List ℕ)) (calls : List EpCall) → SoundIn t (has_refused (is_read s) calls)
+    → SoundIn t (has_refused (is_read s) (Polled answer ∷ calls))
+polled_sound t s answer calls h = h
+
 pub polled_stands : (t : TransferState) (b : Bus) (answer : Option (List ℕ)) (calls : List EpCall) → Stands t b calls → Stands t b (Polled answer ∷ calls)
 polled_stands t b answer calls (inl x) = inl (x.0, x.1, x.2, x.3)
-polled_stands t b answer calls (inr (s, x)) = inr (s, record { asked = x.asked; buffer = x.buffer; past = polled_past t s (outs_of b.seen) answer calls x.past; heard = x.heard; due = x.due })
+polled_stands t b answer calls (inr (s, x)) = inr (s, record { asked = x.asked; buffer = x.buffer; past = polled_past t s (outs_of b.seen) answer calls x.past; heard = x.heard; due = x.due; sound = polled_sound t s answer calls x.sound })

@@ -64,13 +64,15 @@ abbrev pub is_in_due : List ℕ → List (List ℕ) → List (List ℕ) → Bool
 is_in_due setup given [] = not (all_given setup given) && not (is_write setup)
 is_in_due setup given (packet ∷ before) = not (all_given setup given) && is_write setup
 
--- the device is asked for what is due alone, and is told only packets that the host sent in the transfer
+-- the device is asked for what is due alone, is told only packets that the host sent in the transfer, and nothing more once it refused
 abbrev pub AsksDue : List ℕ → List (List ℕ) → List EpCall → Type 0
 AsksDue setup outs [] = Unit {0}
 AsksDue setup outs (SetUp bytes ∷ before) = Unit {0}
 AsksDue setup outs (BusReset ∷ before) = Unit {0}
-AsksDue setup outs (In answer ∷ before) = (is_in_due setup (given_of before) (heard_of before) ≡ true) × AsksDue setup outs before
-AsksDue setup outs (Out packet answer ∷ before) = ((after rest : List (List ℕ)) × (outs ≡ after ++ (packet ∷ rest))) × AsksDue setup outs before
+AsksDue setup outs (In answer ∷ before) =
+    (has_refused (is_read setup) before ≡ false) × (is_in_due setup (given_of before) (heard_of before) ≡ true) × AsksDue setup outs before
+AsksDue setup outs (Out packet answer ∷ before) =
+    (has_refused (is_read setup) before ≡ false) × ((after rest : List (List ℕ)) × (outs ≡ after ++ (packet ∷ rest))) × AsksDue setup outs before
 AsksDue setup outs (Polled answer ∷ before) = AsksDue setup outs before
 
 -- what is due was asked for last in this call, and the device put it off
@@ -126,6 +128,8 @@ pub record Answers (b : Bus) (calls since : List EpCall) : Type 0 where
   -- NAK and STALL have their reasons
   pub input : InFor b.input b calls since
   pub output : OutFor b.output b calls since
+  -- where the device refused, both are stalled (section 8.5.3.4)
+  pub refused : (setup : List ℕ) → asked_of calls ≡ Some setup → has_refused (is_read setup) calls ≡ true → (b.input ≡ Stalls) × (b.output ≡ StallsOut)
   -- the device heard what the host sent, and was asked for nothing else
   pub hears : (setup : List ℕ) → asked_of calls ≡ Some setup → Hears b calls since
   pub due : (setup : List ℕ) → asked_of calls ≡ Some setup → AsksDue setup (outs_of b.seen) calls

@@ -12,7 +12,7 @@ use Rattle.usb_device.specs.Transfers.{TransferState, Idle, Refused, Over, Reads
 use Rattle.usb_device.specs.Confirmed.{asked_of, taken_of, ConfirmedBefore, AllKept}
 use Rattle.usb_device.specs.WholeReads.{joined}
 use Rattle.usb_device.specs.Given.{is_read, got_of, outs_of, given_of, heard_of, all_given, Hands, AllGiven}
-use Rattle.usb_device.specs.Served.{Grows, handed_on, AreAsked, HasCause, AsksDue, is_undue, is_in_due}
+use Rattle.usb_device.specs.Served.{Grows, handed_on, AreAsked, HasCause, AsksDue, has_refused, is_undue, is_in_due}
 
 abbrev pub transfer_view : Kept.Transfer → TransferState
 transfer_view Kept.TheVariants.Idle = Idle
@@ -147,12 +147,19 @@ HeardIn Opening s out output outs heard = (out ≡ None) × IsClosed output × (
 HeardIn Writes s out output outs heard = ClosedIf out output × OnlyBy out outs heard
 HeardIn t s out output outs heard = HeardBy s out outs heard
 
+-- the device refused only where the transfer is refused
+abbrev pub SoundIn : TransferState → Bool → Type 0
+SoundIn Refused refused = Unit {0}
+SoundIn Over refused = Unit {0}
+SoundIn t refused = refused ≡ false
+
 pub record StandsOf (t : TransferState) (s : List ℕ) (b : Bus) (calls : List EpCall) : Type 0 where
   pub asked : asked_of calls ≡ Some s
   pub buffer : BufferIn t b.input b.output b.met.taken
   pub past : PastIn t s (outs_of b.seen) calls
   pub heard : HeardIn t s b.met.out b.output (outs_of b.seen) (heard_of calls)
   pub due : AsksDue s (outs_of b.seen) calls
+  pub sound : SoundIn t (has_refused (is_read s) calls)
 
 -- no transfer, or this one
 abbrev pub Stands : TransferState → Bus → List EpCall → Type 0
