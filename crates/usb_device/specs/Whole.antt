@@ -56,3 +56,10 @@ abbrev pub FailedBy : TransferError → ℕ → List ℕ → List ℕ → List E
 FailedBy Refused steps setup data_ since = IsRefused setup data_ since
 FailedBy Busy steps setup data_ since = since ≡ Out data_ Nak ∷ SetUp setup ∷ []
 FailedBy Unfinished steps setup data_ since = since ≡ begun setup data_ steps
+
+-- behind each NAK of the status stage the device made a step of its work
+abbrev pub WorksBehind : {E : Type 0} → (List EpCall → E → Type 0) → (E → E → Type 0) → List EpCall → List EpCall → Type 0
+WorksBehind refines works past [] = Unit {0}
+WorksBehind refines works past (In Nak ∷ before) =
+    ((from : _) × (next : _) × refines (In Nak ∷ before ++ past) from × works from next) × WorksBehind refines works past before
+WorksBehind refines works past (_ ∷ before) = WorksBehind refines works past before

@@ -2,7 +2,7 @@
 
 ghost use Rattle.std.specs.Prelude.{◌≡◌, ◌++◌, ℕ, List, MatchResult};
 ghost use Rattle.usb_device.specs.Calls.{EpCall};
-ghost use Rattle.usb_device.specs.Whole.{FailedBy, IsWritten, data_status_of, status_of};
+ghost use Rattle.usb_device.specs.Whole.{FailedBy, IsWritten, WorksBehind, data_status_of, status_of};
 ghost use Rattle.usb_device.specs.representation.Whole.{Gives, IsConfirmed, NotConfirmed};
 
 use crate::{Endpoints, EpAnswer};
@@ -61,7 +61,8 @@ pub fn write<E: Works>(
     steps: u16,
 ) -> Result<(), TransferError>
     ensures { (past : List EpCall) → E.refines past device.old → (since : List EpCall) × E.refines (since ++ past) device.new
-        × MatchResult result (λ _. IsWritten setup bytes.now since) (λ e. FailedBy e steps setup bytes.now since) }
+        × MatchResult result (λ _. IsWritten setup bytes.now since) (λ e. FailedBy e steps setup bytes.now since)
+        × WorksBehind E.Endpoints.refines E.works past since }
 {
     device.setup(setup);
     match give(device, bytes) {
@@ -125,7 +126,8 @@ fn give<E: Endpoints>(device: &mut E, bytes: &[u8]) -> Status
 /// Asks for the empty packet of the status stage.
 fn confirm<E: Works>(device: &mut E, steps: u16) -> Result<(), TransferError>
     ensures { (past : List EpCall) → E.refines past device.old → (since : List EpCall) × E.refines (since ++ past) device.new
-        × MatchResult result (λ _. IsConfirmed since) (λ e. NotConfirmed e steps since) }
+        × MatchResult result (λ _. IsConfirmed since) (λ e. NotConfirmed e steps since)
+        × WorksBehind E.Endpoints.refines E.works past since }
 {
     for _step in 0..steps {
         match status_of(device.in_packet()) {
