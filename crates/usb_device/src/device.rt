@@ -14,7 +14,7 @@ ghost use Rattle.usb_device.specs.Events.{Event, OutCame, SuspendCame, ResumeCam
 ghost use Rattle.usb_device.specs.Pauses.{ArePolls, Hands, HasNone, pause_by, sets_endpoint};
 ghost use Rattle.usb_device.specs.Through.{calls_of};
 ghost use Rattle.usb_device.specs.representation.Paused.{GoesOn};
-ghost use Rattle.usb_device.specs.representation.Link1.{Link1, InStep, KeepsMarks, NothingWithheld, may_send};
+ghost use Rattle.usb_device.specs.representation.Link1.{Link1, size_of, InStep, KeepsMarks, NothingWithheld, may_send};
 ghost use Rattle.usb_device.specs.representation.Layered.{Layered, PolledOnce, endpoint_set, with_state, is_ready, report_waits};
 
 use crate::buffers::Buffers;
@@ -48,6 +48,7 @@ fn follow<B: Buffers>(change: Option<Change>, buffers: &mut B, reports: &mut Rep
     ensures opened { (state : Endpoint1) → endpoint_set change ≡ Some state → (B.bus buffers.new).reset ≡ false → (B.bus buffers.new).opened ≡ true }
     ensures same { endpoint_set change ≡ None → buffers.new ≡ buffers.old }
     ensures waits { reports.new.left ≡ pause_by (sets_endpoint change) reports.old.left }
+    ensures size { reports.new.size ≡ reports.old.size }
 {
     match endpoint_set(change) {
         Some(state) => {
@@ -75,6 +76,7 @@ impl<'a, E: Endpoints, B: Buffers> Device<'a, E, B> {
         ensures refines { (lent : Lent) → Refines lent [] layer.entry → E.refines [] behind → B.bus buffers ≡ blank false
             → Layered E.refines lent [] result.layer result.behind result.reports (B.bus result.buffers) }
         ensures holds { result.behind ≡ behind }
+        ensures size { result.reports.size ≡ size_of size }
     {
         Device {
             layer,
@@ -90,6 +92,7 @@ impl<'a, E: Endpoints, B: Buffers> Device<'a, E, B> {
             → Layered E.refines lent past self.old.layer self.old.behind self.old.reports (B.bus self.old.buffers)
             → Layered E.refines lent (ScanCame ∷ past) self.new.layer self.new.behind self.new.reports (B.bus self.new.buffers) }
         ensures behind { self.new.behind ≡ self.old.behind }
+        ensures size { self.new.reports.size ≡ self.old.reports.size }
     {
         self.reports.scan();
     }
@@ -105,6 +108,7 @@ impl<'a, E: Endpoints, B: Buffers> Device<'a, E, B> {
         ensures known { self.old.layer.renewed ≡ true → ((B.bus self.old.buffers).reset ≡ false → (B.bus self.old.buffers).opened ≡ true)
             → (B.bus self.new.buffers).reset ≡ false → IsKnown (B.bus self.new.buffers).got }
         ensures behind { self.new.behind ≡ self.old.behind }
+        ensures size { self.new.reports.size ≡ self.old.reports.size }
     {
         self.reports.release();
         if self.layer.has_renewed() {
@@ -118,6 +122,7 @@ impl<'a, E: Endpoints, B: Buffers> Device<'a, E, B> {
             → Layered E.refines lent past self.old.layer self.old.behind self.old.reports (B.bus self.old.buffers)
             → Layered E.refines lent (SuspendCame ∷ past) self.new.layer self.new.behind self.new.reports (B.bus self.new.buffers) }
         ensures behind { self.new.behind ≡ self.old.behind }
+        ensures size { self.new.reports.size ≡ self.old.reports.size }
     {
         self.layer.suspend();
     }
@@ -128,6 +133,7 @@ impl<'a, E: Endpoints, B: Buffers> Device<'a, E, B> {
             → Layered E.refines lent past self.old.layer self.old.behind self.old.reports (B.bus self.old.buffers)
             → Layered E.refines lent (ResumeCame ∷ past) self.new.layer self.new.behind self.new.reports (B.bus self.new.buffers) }
         ensures behind { self.new.behind ≡ self.old.behind }
+        ensures size { self.new.reports.size ≡ self.old.reports.size }
     {
         self.layer.resume();
     }
@@ -140,6 +146,7 @@ impl<'a, E: Endpoints, B: Buffers> Device<'a, E, B> {
         ensures answer { (lent : Lent) (past : List Event) → Refines lent past self.old.layer
             → result ≡ wakes_by lent past (report_waits self.old.layer self.old.reports) }
         ensures behind { self.new.behind ≡ self.old.behind }
+        ensures size { self.new.reports.size ≡ self.old.reports.size }
     {
         let has_report = self.report_waits();
         self.layer.wakes(has_report)
@@ -175,6 +182,7 @@ impl<'a, E: Endpoints, B: Buffers> Device<'a, E, B> {
         ensures waits { self.new.reports.left ≡ self.old.reports.left }
         ensures same { self.new.layer.endpoint ≡ self.old.layer.endpoint }
         ensures kept { (from : E) → E.keeps from self.old.behind → E.keeps from self.new.behind }
+        ensures size { self.new.reports.size ≡ self.old.reports.size }
     {
         let count = self.buffers.taken_1();
         self.reports.taken(count);
@@ -215,6 +223,7 @@ impl<'a, E: Endpoints, B: Buffers> Device<'a, E, B> {
         ensures buffers { self.new.buffers ≡ self.old.buffers }
         ensures waits { self.new.reports.left ≡ self.old.reports.left }
         ensures kept { (from : E) → E.keeps from self.old.behind → E.keeps from self.new.behind }
+        ensures size { self.new.reports.size ≡ self.old.reports.size }
     {
         self.layer.out_packet(packet, &mut self.behind)
     }
@@ -233,6 +242,7 @@ impl<'a, E: Endpoints, B: Buffers> Device<'a, E, B> {
         ensures waits { self.new.reports.left ≡ self.old.reports.left }
         ensures same { self.new.layer.endpoint ≡ self.old.layer.endpoint }
         ensures kept { (from : E) → E.keeps from self.old.behind → E.keeps from self.new.behind }
+        ensures size { self.new.reports.size ≡ self.old.reports.size }
     {
         if self.reports.is_free() {
             match report_of(self.layer.poll(&mut self.behind)) {
@@ -248,7 +258,7 @@ impl<'a, E: Endpoints, B: Buffers> Endpoints for Device<'a, E, B> {
         × (no_polls (calls_of past) ≡ no_polls calls) };
 
     ghost keeps = { λ from d. ((base : E) → E.keeps base from.behind → E.keeps base d.behind)
-        × GoesOn E.refines from.layer from.behind from.reports (B.bus from.buffers) d.layer d.behind d.reports (B.bus d.buffers) };
+        × GoesOn E.refines from.layer from.behind from.reports (B.bus from.buffers) d.layer d.behind d.reports (B.bus d.buffers) × (d.reports.size ≡ from.reports.size) };
 
     fn setup(&mut self, packet: [u8; 8]) {
         self.layer.setup(packet, &mut self.behind);

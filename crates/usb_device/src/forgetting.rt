@@ -8,7 +8,8 @@ ghost use Rattle.usb_device.specs.States.{is_empty_packet};
 ghost use Rattle.usb_device.specs.Forgetting.{blank, bytes_of, chosen, names_boot};
 ghost use Rattle.usb_device.specs.representation.Forgetting.{RefinesBehind, forgets_of};
 
-use crate::report_buffers::{held, is_empty, sets_protocol};
+use crate::packets::held;
+use crate::report_buffers::{is_empty, sets_protocol};
 use crate::{Endpoints, EpAnswer, Report, ScansMatrix, Works};
 
 /// The bytes of the consumer report.

@@ -5,7 +5,7 @@ ghost use Rattle.usb_device.specs.Bus1.{agree, blank, received};
 ghost use Rattle.usb_device.specs.representation.Played.{begun_if, got_of, played_bus, Moved};
 
 use crate::buffers::Buffers;
-use crate::report_buffers::held;
+use crate::packets::held;
 use crate::{Endpoint1, Report};
 use arrayvec::ArrayVec;
 

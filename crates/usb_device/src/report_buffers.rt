@@ -1,6 +1,6 @@
 //! Endpoint 1 behind buffers: reports in packets, and data toggles.
 
-ghost use Rattle.std.specs.Prelude.{◌≡◌, ◌⊎◌, ◌≤◌, ◌+◌, ◌-◌, ◌/◌, ◌∷◌, ℕ, ◌<◌, nat_lt, suc, length, Bool, true, false, List, [], take, drop, Some, ◌==◌, ◌&&◌};
+ghost use Rattle.std.specs.Prelude.{◌≡◌, ◌⊎◌, ◌+◌, ◌-◌, ◌/◌, ◌∷◌, ◌<◌, nat_lt, suc, Bool, true, false, List, [], Some, ◌==◌, ◌&&◌};
 ghost use Rattle.usb_device.specs.declared.answer.Endpoint1.{Endpoint1};
 ghost use Rattle.usb_device.specs.Calls.{EpCall, SetUp, In, BusReset, Polled};
 ghost use Rattle.usb_device.specs.Bus1.{Bus1, room_of, reported, anew, blank, Changed, sent_of, is_old, newest, sets_protocol, IsKnown};
@@ -8,9 +8,10 @@ ghost use Rattle.usb_device.specs.Confirmed.{asked_of};
 ghost use Rattle.usb_device.specs.States.{is_empty_packet};
 ghost use Rattle.usb_device.specs.Reports.{count_of};
 ghost use Rattle.usb_device.specs.Pauses.{pause_by};
-ghost use Rattle.usb_device.specs.representation.Link1.{ReportState, Link1, to_hand, is_more, is_over, is_begun, is_under_way, IsHeld, InStep, KeepsMarks, KeepsStates};
+ghost use Rattle.usb_device.specs.representation.Link1.{ReportState, Link1, size_of, to_hand, is_more, is_over, is_begun, is_under_way, IsHeld, InStep, KeepsMarks, KeepsStates};
 ghost use Rattle.usb_device.specs.declared.report_buffers.Course.TheVariants.{Rests, Begins, Goes};
 
+use crate::packets::{behind, first_bytes, held};
 use crate::{Buffers, EpAnswer, PacketSize, Report};
 use arrayvec::ArrayVec;
 use std::marker::Model;
@@ -88,29 +89,6 @@ fn room<B: Buffers>(buffers: &B) -> u8
     if buffers.has_two() { 2 } else { 1 }
 }
 
-/// At most 23 bytes, held.
-pub(crate) fn held(bytes: &[u8]) -> Report
-    ensures { length bytes.now ≤ 23 → result.items ≡ bytes.now }
-{
-    let mut held = ArrayVec::new();
-    let _full = held.try_extend_from_slice(bytes);
-    held
-}
-
-/// So many of at most 23 bytes, or all of fewer.
-fn first_bytes(bytes: &[u8], count: usize) -> Report
-    ensures { length bytes.now ≤ 23 → result.items ≡ take count bytes.now }
-{
-    held(&bytes[..bytes.len().min(count)])
-}
-
-/// The bytes behind these.
-fn behind(bytes: &[u8], count: usize) -> Report
-    ensures { length bytes.now ≤ 23 → result.items ≡ drop count bytes.now }
-{
-    held(&bytes[bytes.len().min(count)..])
-}
-
 /// Whether a SETUP packet is SET_PROTOCOL.
 pub(crate) fn sets_protocol(setup: [u8; 8]) -> bool
     ensures { result ≡ sets_protocol (Some setup) }
@@ -133,6 +111,7 @@ impl ReportBuffers {
     pub fn new(size: PacketSize) -> ReportBuffers
         ensures linked { Link1 result (blank false) [] }
         ensures waits { result.left ≡ 0 }
+        ensures size { result.size ≡ size_of size }
     {
         ReportBuffers {
             size,
@@ -156,6 +135,7 @@ impl ReportBuffers {
         ensures linked { (state : Endpoint1) (b : Bus1) (calls : List EpCall) → (self.old.course ≡ Goes → self.old.old ≡ false)
             → Link1 self.old b calls → Link1 self.new (anew b state) calls }
         ensures waits { self.new.left ≡ pause_by true self.old.left }
+        ensures size { self.new.size ≡ self.old.size }
     {
         self.unsure = true;
         self.lost = false;
@@ -170,6 +150,7 @@ impl ReportBuffers {
     pub fn scan(&mut self)
         ensures less { self.new.left ≡ self.old.left - 1 }
         ensures linked { (b : Bus1) (calls : List EpCall) → Link1 self.old b calls → Link1 self.new b calls }
+        ensures size { self.new.size ≡ self.old.size }
     {
         self.waits = self.waits.saturating_sub(1);
     }
@@ -188,6 +169,7 @@ impl ReportBuffers {
         ensures reported { (states : List Endpoint1) → InStep states (B.bus buffers.old) → InStep states (B.bus buffers.new) }
         ensures known { ((B.bus buffers.old).reset ≡ false → (B.bus buffers.old).opened ≡ true) → (B.bus buffers.new).reset ≡ false → IsKnown (B.bus buffers.new).got }
         ensures waits { self.new.left ≡ self.old.left }
+        ensures size { self.new.size ≡ self.old.size }
     {
         buffers.host_began();
         if !self.lost {
@@ -199,6 +181,7 @@ impl ReportBuffers {
     pub fn setup(&mut self, packet: [u8; 8])
         ensures waits { self.new.left ≡ self.old.left }
         ensures linked { (b : Bus1) (calls : List EpCall) → Link1 self.old b calls → Link1 self.new b (SetUp packet ∷ calls) }
+        ensures size { self.new.size ≡ self.old.size }
     {
         self.protocol = sets_protocol(packet);
     }
@@ -208,6 +191,7 @@ impl ReportBuffers {
         ensures linked { (calls : List EpCall) → Link1 self.old (B.bus buffers.old) calls → Link1 self.new (B.bus buffers.new) (In answer.now ∷ calls) }
         ensures reported { KeepsStates (B.bus buffers.old) (B.bus buffers.new) }
         ensures waits { self.new.left ≡ pause_by (is_empty_packet answer.now && self.old.protocol) self.old.left }
+        ensures size { self.new.size ≡ self.old.size }
     {
         if self.is_change(answer) {
             let count = buffers.taken_1();
@@ -245,6 +229,7 @@ impl ReportBuffers {
         ensures goes_on { self.old.course ≡ Goes → is_begun self.old ≡ true → (self.new ≡ record self.old { old = true }) × (buffers.new ≡ buffers.old) }
         ensures reported { KeepsStates (B.bus buffers.old) (B.bus buffers.new) }
         ensures waits { self.new.left ≡ self.old.left }
+        ensures size { self.new.size ≡ self.old.size }
     {
         match self.course {
             Course::Rests => {}
@@ -266,6 +251,7 @@ impl ReportBuffers {
         ensures others { self.old.old ≡ false → (self.new ≡ self.old) × (buffers.new ≡ buffers.old) }
         ensures waits { self.new.left ≡ self.old.left }
         ensures reported { KeepsStates (B.bus buffers.old) (B.bus buffers.new) }
+        ensures size { self.new.size ≡ self.old.size }
     {
         match self.course {
             Course::Goes => {
@@ -286,6 +272,7 @@ impl ReportBuffers {
         ensures reported { KeepsStates (B.bus buffers.old) (B.bus buffers.new) }
         ensures waits { self.new.left ≡ self.old.left }
         ensures rests { self.new.course ≡ Rests }
+        ensures size { self.new.size ≡ self.old.size }
     {
         buffers.give_up();
         match self.course {
@@ -309,6 +296,7 @@ impl ReportBuffers {
     pub fn reset(&mut self)
         ensures linked { (calls : List EpCall) → Link1 self.new (blank false) (BusReset ∷ calls) }
         ensures waits { self.new.left ≡ 0 }
+        ensures size { self.new.size ≡ self.old.size }
     {
         self.course = Course::Rests;
         self.unsure = false;
@@ -322,6 +310,7 @@ impl ReportBuffers {
         ensures linked { (b : Bus1) (calls : List EpCall) → b.taken ≡ count → Link1 self.old b calls
             → Link1 self.new (reported b) calls }
         ensures waits { self.new.left ≡ self.old.left }
+        ensures size { self.new.size ≡ self.old.size }
     {
         self.buffered = (self.buffered as usize).saturating_sub(count) as u8;
         match self.course {
@@ -379,6 +368,7 @@ impl ReportBuffers {
             → Link1 self.new b (Polled (Some report.items) ∷ calls) }
         ensures begins { self.new.course ≡ Begins }
         ensures waits { self.new.left ≡ self.old.left }
+        ensures size { self.new.size ≡ self.old.size }
     {
         self.report = report;
         self.course = Course::Begins;
@@ -390,6 +380,7 @@ impl ReportBuffers {
         ensures held { (self.new.course ≡ Goes) × IsHeld (room_of B.two) self.new ⊎ (self.old.course ≡ Rests) × (buffers.new ≡ buffers.old) × (self.new ≡ self.old) }
         ensures marks { (calls : List EpCall) → Link1 self.old (B.bus buffers.old) calls → KeepsMarks (B.bus buffers.old) (B.bus buffers.new) }
         ensures waits { self.new.left ≡ self.old.left }
+        ensures size { self.new.size ≡ self.old.size }
     {
         match self.course {
             Course::Rests => {}
@@ -413,6 +404,7 @@ impl ReportBuffers {
         ensures marks { (calls : List EpCall) → self.old.course ≡ Begins → Link1 self.old (B.bus buffers.old) calls
             → KeepsMarks (B.bus buffers.old) (B.bus buffers.new) }
         ensures waits { self.new.left ≡ self.old.left }
+        ensures size { self.new.size ≡ self.old.size }
     {
         self.restart();
         let packet = self.next_packet();
@@ -431,6 +423,7 @@ impl ReportBuffers {
         ensures marks { (calls : List EpCall) → self.old.course ≡ Goes → Link1 self.old (B.bus buffers.old) calls
             → KeepsMarks (B.bus buffers.old) (B.bus buffers.new) }
         ensures waits { self.new.left ≡ self.old.left }
+        ensures size { self.new.size ≡ self.old.size }
     {
         if self.buffered < room(buffers) && self.is_more() {
             let packet = self.next_packet();

@@ -15,7 +15,7 @@ ghost use Rattle.usb_device.specs.Transfers.{Idle, is_done};
 ghost use Rattle.usb_device.specs.Guarding.{GuardCall, Locked};
 ghost use Rattle.usb_device.specs.representation.Guarded.{Guards, guarded_refines};
 ghost use Rattle.usb_device.specs.representation.Relation.{Refines};
-ghost use Rattle.usb_device.specs.representation.Link1.{NothingWithheld, may_send};
+ghost use Rattle.usb_device.specs.representation.Link1.{size_of, NothingWithheld, may_send};
 ghost use Rattle.usb_device.specs.representation.Layered.{Layered, Runs, is_ready, report_waits};
 
 use crate::buffers::Buffers;
@@ -121,6 +121,7 @@ impl<'a, E: Endpoints, B: Buffers> UsbDevice<'a, E, B> {
             → (result.control ≡ Idle)
             × Layered E.refines lent [] result.device.layer result.device.behind result.device.reports (B.bus result.device.buffers) }
         ensures holds { result.device.behind ≡ behind }
+        ensures size { result.device.reports.size ≡ size_of size }
     {
         UsbDevice {
             control: ControlBuffers::new(),
@@ -135,6 +136,7 @@ impl<'a, E: Endpoints, B: Buffers> UsbDevice<'a, E, B> {
             → Layered E.refines lent (ScanCame ∷ past) self.new.device.layer self.new.device.behind self.new.device.reports (B.bus self.new.device.buffers) }
         ensures same { self.new.control ≡ self.old.control }
         ensures behind { self.new.device.behind ≡ self.old.device.behind }
+        ensures size { self.new.device.reports.size ≡ self.old.device.reports.size }
     {
         self.device.scan();
     }
@@ -162,6 +164,7 @@ impl<'a, E: Endpoints, B: Buffers> UsbDevice<'a, E, B> {
             × ServesReports lent (asked ++ seen_if (is_done self.new.control) (met ++ past)) (B.bus self.new.device.buffers) asked
             × KnowsHost (is_done self.new.control) lent past (asked ++ seen_if (is_done self.new.control) (met ++ past)) (B.bus self.old.device.buffers) (B.bus self.new.device.buffers) }
         ensures kept { (from : E) → E.keeps from self.old.device.behind → E.keeps from self.new.device.behind }
+        ensures size { self.new.device.reports.size ≡ self.old.device.reports.size }
     {
         self.control.serve(&mut self.device, controller);
         self.settle();
@@ -177,6 +180,7 @@ impl<'a, E: Endpoints, B: Buffers> UsbDevice<'a, E, B> {
             → Layered E.refines lent (SuspendCame ∷ past) self.new.device.layer self.new.device.behind self.new.device.reports (B.bus self.new.device.buffers) }
         ensures same { self.new.control ≡ self.old.control }
         ensures behind { self.new.device.behind ≡ self.old.device.behind }
+        ensures size { self.new.device.reports.size ≡ self.old.device.reports.size }
     {
         self.device.suspend();
     }
@@ -188,6 +192,7 @@ impl<'a, E: Endpoints, B: Buffers> UsbDevice<'a, E, B> {
             → Layered E.refines lent (ResumeCame ∷ past) self.new.device.layer self.new.device.behind self.new.device.reports (B.bus self.new.device.buffers) }
         ensures same { self.new.control ≡ self.old.control }
         ensures behind { self.new.device.behind ≡ self.old.device.behind }
+        ensures size { self.new.device.reports.size ≡ self.old.device.reports.size }
     {
         self.device.resume();
     }
@@ -205,6 +210,7 @@ impl<'a, E: Endpoints, B: Buffers> UsbDevice<'a, E, B> {
             → Layered E.refines lent past self.old.device.layer self.old.device.behind self.old.device.reports (B.bus self.old.device.buffers)
             → result ≡ wakes_by lent past (report_waits self.old.device.layer self.old.device.reports) }
         ensures behind { self.new.device.behind ≡ self.old.device.behind }
+        ensures size { self.new.device.reports.size ≡ self.old.device.reports.size }
     {
         self.device.wakes()
     }
@@ -230,6 +236,7 @@ impl<'a, E: Endpoints, B: Buffers> UsbDevice<'a, E, B> {
             → (B.bus self.new.device.buffers).reset ≡ false → IsKnown (B.bus self.new.device.buffers).got }
         ensures same { self.new.control ≡ self.old.control }
         ensures behind { self.new.device.behind ≡ self.old.device.behind }
+        ensures size { self.new.device.reports.size ≡ self.old.device.reports.size }
     {
         if self.control.is_done() {
             self.device.is_done();
@@ -245,6 +252,7 @@ impl<'a, E: Works, B: Buffers> UsbDevice<'a, E, B> {
             → Layered E.Endpoints.refines lent past self.old.device.layer self.old.device.behind self.old.device.reports (B.bus self.old.device.buffers)
             → Layered E.Endpoints.refines lent past self.new.device.layer self.new.device.behind self.new.device.reports (B.bus self.new.device.buffers) }
         ensures same { self.new.control ≡ self.old.control }
+        ensures size { self.new.device.reports.size ≡ self.old.device.reports.size }
     {
         self.device.behind.work();
     }
@@ -258,6 +266,7 @@ impl<'a, E: ScansMatrix, B: Buffers> UsbDevice<'a, E, B> {
             → Layered E.Endpoints.refines lent past self.old.device.layer self.old.device.behind self.old.device.reports (B.bus self.old.device.buffers)
             → Layered E.Endpoints.refines lent (ScanCame ∷ past) self.new.device.layer self.new.device.behind self.new.device.reports (B.bus self.new.device.buffers) }
         ensures same { self.new.control ≡ self.old.control }
+        ensures size { self.new.device.reports.size ≡ self.old.device.reports.size }
     {
         self.scan();
         self.device.behind.scan(rows);
@@ -274,6 +283,7 @@ impl<'a, E: Endpoints, B: Buffers> UsbDevice<'a, Guarded<E>, B> {
             → Layered (guarded_refines E.refines) lent past self.old.device.layer self.old.device.behind self.old.device.reports (B.bus self.old.device.buffers)
             → Layered (guarded_refines E.refines) lent past self.new.device.layer self.new.device.behind self.new.device.reports (B.bus self.new.device.buffers) }
         ensures same { self.new.control ≡ self.old.control }
+        ensures size { self.new.device.reports.size ≡ self.old.device.reports.size }
     {
         self.device.behind.set_locked(on);
     }

@@ -1,7 +1,8 @@
 // Exported from crates/usb_device/src/forgetting.rt by bin/export-rust. Edit that file instead.
 //! A report of the protocol before, which a host is to forget.
 
-use crate::parts::usb_device::report_buffers::{held, is_empty, sets_protocol};
+use crate::parts::usb_device::packets::held;
+use crate::parts::usb_device::report_buffers::{is_empty, sets_protocol};
 use crate::parts::usb_device::{Endpoints, EpAnswer, Report, ScansMatrix, Works};
 
 /// The bytes of the consumer report.

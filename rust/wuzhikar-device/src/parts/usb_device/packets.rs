@@ -1,6 +1,7 @@
 // Exported from crates/usb_device/src/packets.rt by bin/export-rust. Edit that file instead.
 //! The packets that data are cut into.
 
+use crate::parts::usb_device::Report;
 use arrayvec::ArrayVec;
 
 /// Packet `index` of a transfer that reads these bytes and asked for `asked`.
@@ -22,4 +23,21 @@ fn first_packet(bytes: &[u8]) -> ArrayVec<u8, 8> {
     let mut packet = ArrayVec::new();
     let _full = packet.try_extend_from_slice(&bytes[..bytes.len().min(8)]);
     packet
+}
+
+/// At most 23 bytes, held.
+pub(crate) fn held(bytes: &[u8]) -> Report {
+    let mut held = ArrayVec::new();
+    let _full = held.try_extend_from_slice(bytes);
+    held
+}
+
+/// So many of at most 23 bytes, or all of fewer.
+pub(crate) fn first_bytes(bytes: &[u8], count: usize) -> Report {
+    held(&bytes[..bytes.len().min(count)])
+}
+
+/// The bytes behind these.
+pub(crate) fn behind(bytes: &[u8], count: usize) -> Report {
+    held(&bytes[bytes.len().min(count)..])
 }

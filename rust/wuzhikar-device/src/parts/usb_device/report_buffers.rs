@@ -1,6 +1,7 @@
 // Exported from crates/usb_device/src/report_buffers.rt by bin/export-rust. Edit that file instead.
 //! Endpoint 1 behind buffers: reports in packets, and data toggles.
 
+use crate::parts::usb_device::packets::{behind, first_bytes, held};
 use crate::parts::usb_device::{Buffers, EpAnswer, PacketSize, Report};
 use arrayvec::ArrayVec;
 
@@ -49,23 +50,6 @@ fn pause(waits: u8) -> u8 {
 /// How many buffers there are.
 fn room<B: Buffers>(buffers: &B) -> u8 {
     if buffers.has_two() { 2 } else { 1 }
-}
-
-/// At most 23 bytes, held.
-pub(crate) fn held(bytes: &[u8]) -> Report {
-    let mut held = ArrayVec::new();
-    let _full = held.try_extend_from_slice(bytes);
-    held
-}
-
-/// So many of at most 23 bytes, or all of fewer.
-fn first_bytes(bytes: &[u8], count: usize) -> Report {
-    held(&bytes[..bytes.len().min(count)])
-}
-
-/// The bytes behind these.
-fn behind(bytes: &[u8], count: usize) -> Report {
-    held(&bytes[bytes.len().min(count)..])
 }
 
 /// Whether a SETUP packet is SET_PROTOCOL.

@@ -1,4 +1,4 @@
-use Rattle.std.proofs.Common.{[], ◌∷◌, ◌++◌, ◌≡◌, Option, ◌∙◌, sym, ap, subst}
+use Rattle.std.proofs.Common.{◌∷◌, ◌++◌, ◌≡◌, Option, ◌∙◌, ap, subst}
 use Rattle.usb_device.specs.declared.answer.Change.{Change}
 use Rattle.usb_device.specs.Calls.{In}
 use Rattle.usb_device.specs.Events.{InAsked}
@@ -57,4 +57,5 @@ returns-clause-kept g c = λ from k.
             λ u. unsent_in lent all answer change (g.B.Buffers.bus c.args.self.now.buffers) (g.B.Buffers.bus c.follow.new.buffers) b next.answered same
                 (λ n. ap g.B.Buffers.bus (c.follow.ensures.same n)) c.follow.ensures.opened c.answered.ensures.reported (y.3 u),
           )),
+      c.answered.ensures.size ∙ (c.follow.ensures.size ∙ k.2),
     )

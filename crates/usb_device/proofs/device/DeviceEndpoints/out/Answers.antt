@@ -1,4 +1,4 @@
-use Rattle.std.proofs.Common.{◌∷◌, ◌++◌, ap}
+use Rattle.std.proofs.Common.{◌∷◌, ◌++◌, ap, ◌∙◌}
 use Rattle.usb_device.specs.Events.{OutCame}
 use Rattle.usb_device.proofs.Pausing.{unsent_out}
 use Rattle.usb_device.proofs.device.DeviceEndpoints.out.Goals as goal
@@ -13,4 +13,5 @@ returns-clause-kept g c = λ from k.
         y.2,
         λ u. unsent_out lent c.args.packet.now c.take.result (y.0 ++ past) (g.B.Buffers.bus c.args.self.now.buffers) (g.B.Buffers.bus c.take.new.self.buffers) (ap g.B.Buffers.bus e.buffers) (y.3 u),
       )),
+      e.size ∙ k.2,
     )

@@ -1,4 +1,4 @@
-use Rattle.std.proofs.Common.{[], ◌∷◌, ◌++◌, ap, ◌∙◌}
+use Rattle.std.proofs.Common.{◌∷◌, ◌++◌, ap, ◌∙◌}
 use Rattle.usb_device.specs.Calls.{SetUp}
 use Rattle.usb_device.specs.Events.{SetupCame}
 use Rattle.usb_device.specs.Through.{calls_of}
@@ -27,4 +27,5 @@ returns-clause-kept g c = λ from k.
             y.2,
             λ u. unsent_setup lent c.args.packet all b,
           )),
+      c.setup-2.ensures.size ∙ k.2,
     )

@@ -1,4 +1,4 @@
-use Rattle.std.proofs.Common.{ℕ, ◌==◌, [], ◌++◌, sym, ap, subst, ◌∙◌}
+use Rattle.std.proofs.Common.{ℕ, ◌==◌, [], ◌++◌, refl, sym, ap, subst, ◌∙◌}
 use Rattle.usb_device.specs.Bus1.{room_of, no_polls}
 use Rattle.usb_device.specs.Through.{calls_of}
 use Rattle.usb_device.specs.Transfers.{TransferState, NothingWithheld0, is_done}
@@ -9,7 +9,6 @@ use Rattle.usb_device.specs.representation.Layered.{is_ready}
 use Rattle.usb_device.proofs.Layering.{polled_once, marks_known}
 use Rattle.usb_device.proofs.Stating.{standing}
 use Rattle.usb_device.specs.Steps.{LayerState}
-use Rattle.usb_device.specs.States.{has_renewed}
 use Rattle.usb_device.proofs.Linked.{goes}
 use Rattle.usb_device.proofs.Resting.{rest_goes}
 use Rattle.usb_device.specs.representation.Link.{LooksAs}
@@ -51,13 +50,18 @@ returns-clause-runs g c = λ calls lent past h.
 
 pub returns-clause-kept : goal.returns-clause-kept
 returns-clause-kept g c = λ from k.
-    let served = (c.serve.ensures.kept c.args.self.now.device (λ base x. x, λ lent past h. ([], h, tt, λ u. u))).0 from k in
+    let served = (c.serve.ensures.kept c.args.self.now.device (λ base x. x, λ lent past h. ([], h, tt, λ u. u), refl)).0 from k in
     let settled = subst (λ x. g.E.Endpoints.keeps from x) (sym c.settle.ensures.behind) served in
     c.serve_reports.ensures.kept from settled
 
+pub returns-clause-size : goal.returns-clause-size
+returns-clause-size g c =
+    let served = (c.serve.ensures.kept c.args.self.now.device (λ base x. x, λ lent past h. ([], h, tt, λ u. u), refl)).2 in
+    c.serve_reports.ensures.size ∙ (c.settle.ensures.size ∙ served)
+
 pub returns-clause-goes_on : goal.returns-clause-goes_on
 returns-clause-goes_on g c = λ lent past h.
-    let y = (c.serve.ensures.kept c.args.self.now.device (λ base x. x, λ lent past h. ([], h, tt, λ u. u))).1 lent past h in
+    let y = (c.serve.ensures.kept c.args.self.now.device (λ base x. x, λ lent past h. ([], h, tt, λ u. u), refl)).1 lent past h in
     let done = is_done c.settle.new.self.control in
     let seen = seen_if done (y.0 ++ past) in
     let settled = c.settle.ensures.refines lent (y.0 ++ past) y.1 in
