@@ -16,49 +16,10 @@ use Rattle.usb_device.specs.Steps.{LayerState, session, state_of, renewed_then}
 use Rattle.usb_device.specs.representation.Relation.{Refines}
 use Rattle.usb_device.specs.Through.{calls_of}
 use Rattle.usb_device.specs.representation.Layered.{PolledOnce, endpoint_set}
-use Rattle.usb_device.specs.Bus1.{Bus1, Got, New, Anew, GivenUp, Known, Happens1, takes, loses, host_begins, resets1, Goes1, agree, received, reported, unless_reset, filled, given_up, anew, known_if, no_polls, marks, states_reported, IsKnown}
+use Rattle.usb_device.specs.Bus1.{Bus1, Got, New, Anew, GivenUp, Known, Happens1, takes, loses, host_begins, resets1, Goes1, agree, received, reported, unless_reset, filled, given_up, anew, known_if, no_polls, marks, Told, Is, HostBegan, told_of, InOrder, told, unheard, IsKnown}
 use Rattle.usb_device.specs.representation.Link1.{InStep, KeepsMarks, KeepsStates}
 use Rattle.usb_device.proofs.Linked.{takes_as}
 use Rattle.usb_device.proofs.Standing.{were_now}
-
-in_step1 : (states : List Endpoint1) (b next : Bus1) → Happens1 b next → InStep states b → InStep states next
-in_step1 states b next h1 h2 = grind (arith, common_steps)
-
-pub goes_in_step : (steps : List Bus1) (states : List Endpoint1) (b next : Bus1) → Goes1 steps b next → InStep states b → InStep states next
-goes_in_step [] states b next e h = let P : Bus1 → Type 0 = λ x. InStep states x in subst P (sym e) h
-goes_in_step (mid ∷ rest) states b next g h = goes_in_step rest states mid next g.1 (in_step1 states b mid g.0 h)
-
-unless_in_step : (reset : Bool) (states others : List Endpoint1) (b other : Bus1) → b.reset ≡ reset → InStep states b → (reset ≡ false → InStep others other)
-    → InStep others (unless_reset reset b other)
-unless_in_step reset states others b other h1 h2 h3 = grind (arith, common_steps)
-
-pub reported_in_step : (steps : List Bus1) (states : List Endpoint1) (b mid new : Bus1) → Goes1 steps b mid → new ≡ reported mid → InStep states b → InStep states new
-reported_in_step steps states b mid new g e h =
-    let P : Bus1 → Type 0 = λ x. InStep states x in subst P (sym e) (goes_in_step steps states b mid g h)
-
-pub anew_in_step : (steps : List Bus1) (states : List Endpoint1) (state : Endpoint1) (b mid new : Bus1) → Goes1 steps b mid → new ≡ anew mid state
-    → InStep states b → InStep (state ∷ states) new
-anew_in_step steps states state b mid new g e h =
-    let P : Bus1 → Type 0 = λ x. InStep (state ∷ states) x in
-    let m = goes_in_step steps states b mid g h in
-    subst P (sym e) (unless_in_step mid.reset states (state ∷ states) mid _ refl m (λ f r. ap (λ x. state ∷ x) (m r)))
-
-anew_by_opened : (reset : Bool) (b other : Bus1) → b.reset ≡ reset → other.opened ≡ true → (unless_reset reset b other).reset ≡ false
-    → (unless_reset reset b other).opened ≡ true
-anew_by_opened true b other e o r = absurd (let x : true ≡ false = sym e ∙ r in cc)
-anew_by_opened false b other e o r = o
-
-pub anew_opened : (mid new : Bus1) (state : Endpoint1) → new ≡ anew mid state → new.reset ≡ false → new.opened ≡ true
-anew_opened mid new state e =
-    let P : Bus1 → Type 0 = λ x. x.reset ≡ false → x.opened ≡ true in subst P (sym e) (anew_by_opened mid.reset mid _ refl refl)
-
-known_in_step : (opened : Bool) (states : List Endpoint1) (b : Bus1) → InStep states b → InStep states (known_if opened b)
-known_in_step opened states b h1 = grind (arith, common_steps)
-
-pub agreed_in_step : (steps : List Bus1) (states : List Endpoint1) (b mid new : Bus1) → Goes1 steps b mid → new ≡ known_if mid.opened mid
-    → InStep states b → InStep states new
-agreed_in_step steps states b mid new g e h =
-    let P : Bus1 → Type 0 = λ x. InStep states x in subst P (sym e) (known_in_step mid.opened states mid (goes_in_step steps states b mid g h))
 
 keeps_step : (b next : Bus1) → Happens1 b next → KeepsStates b next
 keeps_step b next h1 h2 = grind (arith, common_steps)
@@ -84,8 +45,42 @@ reported_keeps steps b mid new g e =
     let P : Bus1 → Type 0 = λ x. KeepsStates mid x in
     keeps_then b mid new (keeps_goes steps b mid g) (subst P (sym e) (λ r. (r, refl, λ o. o)))
 
-pub states_in_step : (states : List Endpoint1) (b new : Bus1) → KeepsStates b new → InStep states b → InStep states new
-states_in_step states b new k h r = let m = k r in m.1 ∙ h m.0
+pub states_in_step : (states : List Told) (b new : Bus1) → KeepsStates b new → InStep states b → InStep states new
+states_in_step states b new k h r = let m = k r in subst (λ x. InOrder x states) (sym m.1) (h m.0)
+
+pub reported_in_step : (steps : List Bus1) (states : List Told) (b mid new : Bus1) → Goes1 steps b mid → new ≡ reported mid → InStep states b → InStep states new
+reported_in_step steps states b mid new g e h = states_in_step states b new (reported_keeps steps b mid new g e) h
+
+unless_in_step : (reset : Bool) (others : List Told) (b other : Bus1) → b.reset ≡ reset → (reset ≡ false → InStep others other)
+    → InStep others (unless_reset reset b other)
+unless_in_step true others b other e k = λ r. absurd (let x : true ≡ false = sym e ∙ r in cc)
+unless_in_step false others b other e k = k refl
+
+pub anew_in_step : (steps : List Bus1) (states : List Told) (state : Endpoint1) (b mid new : Bus1) → Goes1 steps b mid → new ≡ anew mid state
+    → InStep states b → InStep (Is state ∷ states) new
+anew_in_step steps states state b mid new g e h =
+    let P : Bus1 → Type 0 = λ x. InStep (Is state ∷ states) x in
+    let m = states_in_step states b mid (keeps_goes steps b mid g) h in
+    subst P (sym e) (unless_in_step mid.reset (Is state ∷ states) mid _ refl (λ f r. told (Is state) (told_of mid.got) states (m r)))
+
+anew_by_opened : (reset : Bool) (b other : Bus1) → b.reset ≡ reset → other.opened ≡ true → (unless_reset reset b other).reset ≡ false
+    → (unless_reset reset b other).opened ≡ true
+anew_by_opened true b other e o r = absurd (let x : true ≡ false = sym e ∙ r in cc)
+anew_by_opened false b other e o r = o
+
+pub anew_opened : (mid new : Bus1) (state : Endpoint1) → new ≡ anew mid state → new.reset ≡ false → new.opened ≡ true
+anew_opened mid new state e =
+    let P : Bus1 → Type 0 = λ x. x.reset ≡ false → x.opened ≡ true in subst P (sym e) (anew_by_opened mid.reset mid _ refl refl)
+
+known_in_step : (opened : Bool) (states : List Told) (b : Bus1) → InStep states b → InStep (HostBegan ∷ states) (known_if opened b)
+known_in_step true states b h = λ r. told HostBegan (told_of b.got) states (h r)
+known_in_step false states b h = λ r. unheard (told_of b.got) states (h r)
+
+pub agreed_in_step : (steps : List Bus1) (states : List Told) (b mid new : Bus1) → Goes1 steps b mid → new ≡ known_if mid.opened mid
+    → InStep states b → InStep (HostBegan ∷ states) new
+agreed_in_step steps states b mid new g e h =
+    let P : Bus1 → Type 0 = λ x. InStep (HostBegan ∷ states) x in
+    subst P (sym e) (known_in_step mid.opened states mid (states_in_step states b mid (keeps_goes steps b mid g) h))
 
 pub opened_then : (change : Option Change) (renewed : Bool) (b mid new : Bus1) → (endpoint_set change ≡ None → mid ≡ b)
     → ((state : Endpoint1) → endpoint_set change ≡ Some state → mid.reset ≡ false → mid.opened ≡ true) → KeepsStates mid new
@@ -99,16 +94,16 @@ opened_then None renewed b mid new n s k h e r =
     let P : Bus1 → Type 0 = λ x. KeepsStates x new in let m = (subst P (n refl) k) r in m.2 (h e m.0)
 
 -- what came beside packets
-states_marks : (got : List Got) → states_reported (marks got) ≡ states_reported got
-states_marks [] = refl
-states_marks (New packet ∷ before) = states_marks before
-states_marks (Anew state ∷ before) = ap (λ x. state ∷ x) (states_marks before)
-states_marks (GivenUp ∷ before) = states_marks before
-states_marks (Known ∷ before) = states_marks before
+told_marks : (got : List Got) → told_of (marks got) ≡ told_of got
+told_marks [] = refl
+told_marks (New packet ∷ before) = told_marks before
+told_marks (Anew state ∷ before) = ap (λ x. Is state ∷ x) (told_marks before)
+told_marks (GivenUp ∷ before) = told_marks before
+told_marks (Known ∷ before) = ap (λ x. HostBegan ∷ x) (told_marks before)
 
-pub marks_in_step : (states : List Endpoint1) (b new : Bus1) → KeepsMarks b new → InStep states b → InStep states new
+pub marks_in_step : (states : List Told) (b new : Bus1) → KeepsMarks b new → InStep states b → InStep states new
 marks_in_step states b new k h r =
-    let m = k r in sym (states_marks new.got) ∙ ap (λ x. states_reported x) m.1 ∙ states_marks b.got ∙ h m.0
+    let m = k r in subst (λ x. InOrder x states) (sym (sym (told_marks new.got) ∙ ap (λ x. told_of x) m.1 ∙ told_marks b.got)) (h m.0)
 
 pub marks_then : (b mid new : Bus1) → KeepsMarks b mid → KeepsMarks mid new → KeepsMarks b new
 marks_then b mid new k m r = let y = m r in let x = k y.0 in (x.0, y.1 ∙ x.1)

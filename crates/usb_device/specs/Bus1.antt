@@ -185,13 +185,24 @@ newest [] = []
 newest (Changed ∷ sent) = newest sent
 newest (Reported report ∷ sent) = Reported report ∷ sent
 
--- what endpoint 1 was set to since the last reset, newest first
-abbrev pub states_reported : List Got → List Endpoint1
-states_reported [] = []
-states_reported (New packet ∷ before) = states_reported before
-states_reported (GivenUp ∷ before) = states_reported before
-states_reported (Known ∷ before) = states_reported before
-states_reported (Anew state ∷ before) = state ∷ states_reported before
+-- what the driver is told: what endpoint 1 is from now on; and that the host has begun anew, too
+pub data Told : Type 0 where
+  Is : Endpoint1 → Told
+  HostBegan : Told
+
+-- what it was told since the last reset, newest first
+abbrev pub told_of : List Got → List Told
+told_of [] = []
+told_of (New packet ∷ before) = told_of before
+told_of (GivenUp ∷ before) = told_of before
+told_of (Known ∷ before) = HostBegan ∷ told_of before
+told_of (Anew state ∷ before) = Is state ∷ told_of before
+
+-- some of all of these, in their order; behind a packet that was handed over it counts for nothing that the host has begun anew
+pub data InOrder : List Told → List Told → Type 0 where
+  none : InOrder [] []
+  told : (x : Told) (some all : List Told) → InOrder some all → InOrder (x ∷ some) (x ∷ all)
+  unheard : (some all : List Told) → InOrder some all → InOrder some (HostBegan ∷ all)
 
 -- what came beside packets
 abbrev pub marks : List Got → List Got

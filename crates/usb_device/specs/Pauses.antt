@@ -1,6 +1,6 @@
 -- Trusted: how long endpoint 1 waits, by what the device met; that a report is handed over where it does not wait; and when the data
 -- toggles are known to agree.
-use Rattle.std.specs.Prelude.{◌≡◌, ◌⊎◌, ℕ, zero, suc, ◌+◌, ◌-◌, ◌&&◌, ◌||◌, nat_lt, length, Bool, true, false, List, [], ◌∷◌, ◌++◌, Option, Some, None}
+use Rattle.std.specs.Prelude.{◌≡◌, ◌⊎◌, ℕ, zero, ◌+◌, ◌-◌, ◌&&◌, ◌||◌, nat_lt, length, Bool, true, false, List, [], ◌∷◌, ◌++◌, Option, Some, None}
 use Rattle.usb_device.specs.declared.answer.EpAnswer.{EpAnswer}
 use Rattle.usb_device.specs.declared.answer.Endpoint1.TheVariants.{Ready}
 use Rattle.usb_device.specs.declared.answer.Change.{Change}

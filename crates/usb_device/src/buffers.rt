@@ -74,7 +74,7 @@ pub trait Buffers {
     fn give_up(&mut self)
         ensures { (steps : List Bus1) × (mid : Bus1) × Goes1 steps (bus self.old) mid × (bus self.new ≡ given_up mid) };
 
-    /// The host has the status packet of the request behind the last `begin_anew`. Such a host has begun anew.
+    /// The host has the status packet of the request behind the last `begin_anew`: else it is not called. Such a host has begun anew.
     fn host_began(&mut self)
         ensures { (steps : List Bus1) × (mid : Bus1) × Goes1 steps (bus self.old) mid × (bus self.new ≡ known_if mid.opened mid) };
 

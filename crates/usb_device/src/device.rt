@@ -8,7 +8,7 @@ ghost use Rattle.usb_device.specs.States.{has_renewed, wakes_by};
 ghost use Rattle.usb_device.specs.representation.Relation.{Refines};
 ghost use Rattle.usb_device.specs.declared.answer.Endpoint1.{Endpoint1};
 ghost use Rattle.usb_device.specs.Calls.{EpCall, Polled, Out};
-ghost use Rattle.usb_device.specs.Bus1.{no_polls, room_of, blank, IsKnown, OnlyReported};
+ghost use Rattle.usb_device.specs.Bus1.{Told, no_polls, room_of, blank, IsKnown, OnlyReported};
 ghost use Rattle.usb_device.specs.Requests.{Lent};
 ghost use Rattle.usb_device.specs.Events.{Event, OutCame, SuspendCame, ResumeCame, WakeAsked, StatusSeen, ScanCame};
 ghost use Rattle.usb_device.specs.Pauses.{ArePolls, Hands, HasNone, pause_by, sets_endpoint};
@@ -43,7 +43,7 @@ fn endpoint_set(change: Option<Change>) -> Option<Endpoint1>
 /// Tells the controller what a status packet sets endpoint 1 to, before the packet is handed over.
 fn follow<B: Buffers>(change: Option<Change>, buffers: &mut B, reports: &mut ReportBuffers)
     ensures linked { (calls : List EpCall) → Link1 reports.old (B.bus buffers.old) calls → Link1 reports.new (B.bus buffers.new) calls }
-    ensures reported { (states : List Endpoint1) → InStep states (B.bus buffers.old)
+    ensures reported { (states : List Told) → InStep states (B.bus buffers.old)
         → InStep (with_state (endpoint_set change) states) (B.bus buffers.new) }
     ensures opened { (state : Endpoint1) → endpoint_set change ≡ Some state → (B.bus buffers.new).reset ≡ false → (B.bus buffers.new).opened ≡ true }
     ensures same { endpoint_set change ≡ None → buffers.new ≡ buffers.old }

@@ -3,7 +3,7 @@
 ghost use Rattle.std.specs.Prelude.{◌≡◌, ◌⊎◌, ◌+◌, ◌-◌, ◌/◌, ◌∷◌, ◌<◌, nat_lt, suc, Bool, true, false, List, [], Some, ◌==◌, ◌&&◌};
 ghost use Rattle.usb_device.specs.declared.answer.Endpoint1.{Endpoint1};
 ghost use Rattle.usb_device.specs.Calls.{EpCall, SetUp, In, BusReset, Polled};
-ghost use Rattle.usb_device.specs.Bus1.{Bus1, room_of, reported, anew, blank, Changed, sent_of, is_old, newest, sets_protocol, IsKnown};
+ghost use Rattle.usb_device.specs.Bus1.{Bus1, Told, HostBegan, room_of, reported, anew, blank, Changed, sent_of, is_old, newest, sets_protocol, IsKnown};
 ghost use Rattle.usb_device.specs.Confirmed.{asked_of};
 ghost use Rattle.usb_device.specs.States.{is_empty_packet};
 ghost use Rattle.usb_device.specs.Reports.{count_of};
@@ -166,7 +166,7 @@ impl ReportBuffers {
     /// The host has begun anew with DATA0, where the device has: the toggles agree.
     pub fn agree<B: Buffers>(&mut self, buffers: &mut B)
         ensures linked { (calls : List EpCall) → Link1 self.old (B.bus buffers.old) calls → Link1 self.new (B.bus buffers.new) calls }
-        ensures reported { (states : List Endpoint1) → InStep states (B.bus buffers.old) → InStep states (B.bus buffers.new) }
+        ensures reported { (states : List Told) → InStep states (B.bus buffers.old) → InStep (HostBegan ∷ states) (B.bus buffers.new) }
         ensures known { ((B.bus buffers.old).reset ≡ false → (B.bus buffers.old).opened ≡ true) → (B.bus buffers.new).reset ≡ false → IsKnown (B.bus buffers.new).got }
         ensures waits { self.new.left ≡ self.old.left }
         ensures size { self.new.size ≡ self.old.size }

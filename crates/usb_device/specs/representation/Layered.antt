@@ -7,10 +7,11 @@ use Rattle.usb_device.specs.declared.answer.Change.{Change}
 use Rattle.usb_device.specs.declared.answer.Change.TheVariants.{Endpoint}
 use Rattle.usb_device.specs.Calls.{EpCall}
 use Rattle.usb_device.specs.Requests.{Lent}
-use Rattle.usb_device.specs.Events.{Event, InAsked, PollAsked, ResetCame}
+use Rattle.usb_device.specs.Events.{Event, InAsked, PollAsked, ResetCame, StatusSeen}
 use Rattle.usb_device.specs.Steps.{LayerState, state_of, session, change_of}
+use Rattle.usb_device.specs.States.{has_renewed}
 use Rattle.usb_device.specs.Through.{calls_of}
-use Rattle.usb_device.specs.Bus1.{Bus1, no_polls}
+use Rattle.usb_device.specs.Bus1.{Bus1, Told, Is, HostBegan, no_polls}
 use Rattle.usb_device.specs.Bus.{Bus}
 use Rattle.usb_device.specs.Pauses.{pause_of}
 use Rattle.usb_device.specs.Transfers.{TransferState, NothingWithheld0}
@@ -22,20 +23,26 @@ abbrev pub endpoint_set : Option Change → Option Endpoint1
 endpoint_set (Some (Endpoint state)) = Some state
 endpoint_set _ = None
 
-abbrev pub with_state : Option Endpoint1 → List Endpoint1 → List Endpoint1
-with_state (Some state) states = state ∷ states
+abbrev pub with_state : Option Endpoint1 → List Told → List Told
+with_state (Some state) states = Is state ∷ states
 with_state None states = states
 
--- what the requests set endpoint 1 to since the last reset, newest first
-abbrev pub states_set : Lent → List Event → List Endpoint1
-states_set lent [] = []
-states_set lent (ResetCame ∷ before) = []
-states_set lent (InAsked answer ∷ before) = with_state (endpoint_set (change_of (state_of lent before).stage)) (states_set lent before)
-states_set lent (_ ∷ before) = states_set lent before
+abbrev pub host_began_if : Bool → List Told → List Told
+host_began_if true states = HostBegan ∷ states
+host_began_if false states = states
+
+-- what the driver is to be told since the last reset, newest first: what the requests set endpoint 1 to, and where the host has the status
+-- packet of one
+abbrev pub to_tell : Lent → List Event → List Told
+to_tell lent [] = []
+to_tell lent (ResetCame ∷ before) = []
+to_tell lent (InAsked answer ∷ before) = with_state (endpoint_set (change_of (state_of lent before).stage)) (to_tell lent before)
+to_tell lent (StatusSeen ∷ before) = host_began_if (has_renewed lent before) (to_tell lent before)
+to_tell lent (_ ∷ before) = to_tell lent before
 
 abbrev pub Layered : {E : Type 0} → (List EpCall → E → Type 0) → Lent → List Event → LayerState → E → ReportState → Bus1 → Type 0
 Layered refines lent past layer behind reports b =
-    Refines lent past layer × refines (session lent past) behind × Link1 reports b (calls_of past) × InStep (states_set lent past) b
+    Refines lent past layer × refines (session lent past) behind × Link1 reports b (calls_of past) × InStep (to_tell lent past) b
     × (reports.left ≡ pause_of lent past)
 
 abbrev pub is_ready : Endpoint1 → Bool

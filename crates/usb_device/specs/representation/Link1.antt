@@ -4,10 +4,9 @@ use Rattle.usb_device.specs.declared.buffers.PacketSize.{PacketSize}
 use Rattle.usb_device.specs.declared.buffers.PacketSize.TheVariants as Sizes
 use Rattle.usb_device.specs.declared.report_buffers.Course.{Course}
 use Rattle.usb_device.specs.declared.report_buffers.Course.TheVariants.{Rests, Begins, Goes}
-use Rattle.usb_device.specs.declared.answer.Endpoint1.{Endpoint1}
 use Rattle.usb_device.specs.Calls.{EpCall, Polled}
 use Rattle.usb_device.specs.Confirmed.{asked_of}
-use Rattle.usb_device.specs.Bus1.{Bus1, blank, agree, Sent, Reported, sent_of, is_old, newest, sets_protocol, marks, states_reported}
+use Rattle.usb_device.specs.Bus1.{Bus1, blank, agree, Sent, Reported, sent_of, is_old, newest, sets_protocol, marks, Told, told_of, InOrder}
 use Rattle.usb_device.specs.Reports.{cut, count_of, packets_of, with_new, IsPacket, HasNew, IsEmptied, MayRepeat, MayFollow, Carries, Begun}
 
 abbrev pub size_of : PacketSize → ℕ
@@ -148,13 +147,13 @@ pub data NothingWithheld (may : Bool) (room : ℕ) (s : ReportState) (b : Bus1) 
   has_none : (before : List EpCall) → b.slots ≡ [] → calls ≡ Polled None ∷ before → NothingWithheld may room s b calls
 
 -- the controller was told of each of these, and of nothing else
-abbrev pub InStep : List Endpoint1 → Bus1 → Type 0
-InStep states b = b.reset ≡ false → states_reported b.got ≡ states
+abbrev pub InStep : List Told → Bus1 → Type 0
+InStep states b = b.reset ≡ false → InOrder (told_of b.got) states
 
 -- what was told of endpoint 1 is the same, and the host may begin anew where it might
 abbrev pub KeepsStates : Bus1 → Bus1 → Type 0
 KeepsStates b new =
-    new.reset ≡ false → (b.reset ≡ false) × (states_reported new.got ≡ states_reported b.got) × (b.opened ≡ true → new.opened ≡ true)
+    new.reset ≡ false → (b.reset ≡ false) × (told_of new.got ≡ told_of b.got) × (b.opened ≡ true → new.opened ≡ true)
 
 -- nothing came but packets
 abbrev pub KeepsMarks : Bus1 → Bus1 → Type 0

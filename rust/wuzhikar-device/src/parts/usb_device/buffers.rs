@@ -61,7 +61,7 @@ pub trait Buffers {
     /// `forget` did not follow.
     fn give_up(&mut self);
 
-    /// The host has the status packet of the request behind the last `begin_anew`. Such a host has begun anew.
+    /// The host has the status packet of the request behind the last `begin_anew`: else it is not called. Such a host has begun anew.
     fn host_began(&mut self);
 
     /// Follows a reset of the bus: endpoint 1 is off, with empty buffers and DATA0.

@@ -1,9 +1,9 @@
 use Rattle.std.proofs.Common.{List, sym, ap, subst, ◌∙◌}
 use Rattle.usb_device.specs.Calls.{EpCall}
-use Rattle.usb_device.specs.representation.Link1.{ReportState}
+use Rattle.usb_device.specs.representation.Link1.{ReportState, InStep}
 use Rattle.usb_device.specs.Steps.{LayerState}
 use Rattle.usb_device.specs.Through.{calls_of}
-use Rattle.usb_device.specs.representation.Layered.{states_set}
+use Rattle.usb_device.specs.representation.Layered.{host_began_if, to_tell}
 use Rattle.usb_device.proofs.Carrying.{true_false}
 use Rattle.usb_device.proofs.Stating.{standing}
 use Rattle.usb_device.proofs.Layering.{seen_refines, seen_session}
@@ -15,7 +15,9 @@ returns-then-has_renewed-clause-refines g c = λ lent past h.
       seen_refines lent past c.args.self.now.layer h.0,
       subst S (sym (seen_session lent past)) h.1,
       c.agree.ensures.linked (calls_of past) (c.release.ensures.linked _ (calls_of past) h.2),
-      c.agree.ensures.reported (states_set lent past) h.3,
+      subst (λ x. InStep (host_began_if x (to_tell lent past)) (g.B.Buffers.bus c.agree.new.buffers))
+          (sym c.if-has_renewed.true ∙ c.has_renewed.ensures ∙ ap (λ (s : LayerState). s.renewed) h.0.state ∙ (standing lent past h.0.answered).renewed)
+          (c.agree.ensures.reported (to_tell lent past) h.3),
       c.agree.ensures.waits ∙ ap (λ (r : ReportState). r.left) c.release.ensures.same,
     )
 
@@ -25,7 +27,9 @@ returns-else-has_renewed-clause-refines g c = λ lent past h.
       seen_refines lent past c.args.self.now.layer h.0,
       subst S (sym (seen_session lent past)) h.1,
       c.release.ensures.linked _ (calls_of past) h.2,
-      h.3,
+      subst (λ x. InStep (host_began_if x (to_tell lent past)) (g.B.Buffers.bus c.args.self.now.buffers))
+          (sym c.if-has_renewed.false ∙ c.has_renewed.ensures ∙ ap (λ (s : LayerState). s.renewed) h.0.state ∙ (standing lent past h.0.answered).renewed)
+          h.3,
       ap (λ (r : ReportState). r.left) c.release.ensures.same,
     )
 

@@ -2,7 +2,7 @@ use Rattle.std.proofs.Common.{◌≡◌, ◌==◌, ℕ, true, false, [], ◌++�
 use Rattle.usb_device.specs.Bus1.{Bus1, room_of}
 use Rattle.usb_device.specs.Through.{calls_of}
 use Rattle.usb_device.specs.representation.Link1.{ReportState, Link1, KeepsMarks, NothingWithheld, may_send, may_not}
-use Rattle.usb_device.specs.representation.Layered.{is_ready, states_set}
+use Rattle.usb_device.specs.representation.Layered.{is_ready, to_tell}
 use Rattle.usb_device.proofs.Reporting.{goes1}
 use Rattle.usb_device.proofs.Handing.{goes_held, rests_none, may_by, may_unknown, may_unready}
 use Rattle.usb_device.proofs.Layering.{reported_in_step, marks_in_step, marks_then, reported_marks}
@@ -18,7 +18,7 @@ returns-then-is_known-clause-refines g c = λ lent past h.
     let t = c.taken_1-count.ensures in
     let P : Bus1 → Type 0 = λ x. Link1 c.taken.new.self x (calls_of past) in
     let linked = subst P (sym t.4) (c.taken.ensures.linked t.1 (calls_of past) (sym t.3) (goes1 t.0 c.args.self.now.reports old t.1 (calls_of past) t.2 h.2)) in
-    let a = c.ask.ensures.refines lent past (h.0, h.1, linked, reported_in_step t.0 (states_set lent past) old t.1 seen t.2 t.4 h.3, c.taken.ensures.waits ∙ h.4) in
+    let a = c.ask.ensures.refines lent past (h.0, h.1, linked, reported_in_step t.0 (to_tell lent past) old t.1 seen t.2 t.4 h.3, c.taken.ensures.waits ∙ h.4) in
     let end = c.fill.ensures.linked (calls_of a.0) a.1.2 in
     let may = may_send (is_ready c.args.self.now.layer.endpoint) c.args.self.now.reports.left in
     let known : (c.args.self.now.reports.left == 0) ≡ true = ap (λ (x : ℕ). x == 0) (sym c.taken.ensures.waits) ∙ sym c.is_known.ensures ∙ c.if-is_known.true in
@@ -32,7 +32,7 @@ returns-then-is_known-clause-refines g c = λ lent past h.
     ]
     in (
       a.0,
-      (a.1.0, a.1.1, end, marks_in_step (states_set lent a.0) (g.B.Buffers.bus c.ask.new.self.buffers) new (c.fill.ensures.marks (calls_of a.0) a.1.2) a.1.3, c.fill.ensures.waits ∙ a.1.4),
+      (a.1.0, a.1.1, end, marks_in_step (to_tell lent a.0) (g.B.Buffers.bus c.ask.new.self.buffers) new (c.fill.ensures.marks (calls_of a.0) a.1.2) a.1.3, c.fill.ensures.waits ∙ a.1.4),
       nothing,
       a.3,
       λ n. absurd (let x : true ≡ false = sym now ∙ n in cc),
@@ -54,7 +54,7 @@ returns-else-is_ready-clause-refines g c = λ lent past h.
     ]
     in (
       past,
-      (h.0, h.1, linked, reported_in_step t.0 (states_set lent past) old t.1 seen t.2 t.4 h.3, c.taken.ensures.waits ∙ h.4),
+      (h.0, h.1, linked, reported_in_step t.0 (to_tell lent past) old t.1 seen t.2 t.4 h.3, c.taken.ensures.waits ∙ h.4),
       may_not may,
       inl refl,
       λ n. (refl, (t.0, t.1, t.2, t.4)),
@@ -68,11 +68,11 @@ returns-then-is_known-clause-asked g c = λ lent past h.
     let t = c.taken_1-count.ensures in
     let P : Bus1 → Type 0 = λ x. Link1 c.taken.new.self x (calls_of past) in
     let linked = subst P (sym t.4) (c.taken.ensures.linked t.1 (calls_of past) (sym t.3) (goes1 t.0 c.args.self.now.reports old t.1 (calls_of past) t.2 h.2)) in
-    let a = c.ask.ensures.asked lent past (h.0, h.1, linked, reported_in_step t.0 (states_set lent past) old t.1 seen t.2 t.4 h.3, c.taken.ensures.waits ∙ h.4) in
+    let a = c.ask.ensures.asked lent past (h.0, h.1, linked, reported_in_step t.0 (to_tell lent past) old t.1 seen t.2 t.4 h.3, c.taken.ensures.waits ∙ h.4) in
     let all = a.0 ++ past in
     let end = c.fill.ensures.linked (calls_of all) a.1.2 in (
       a.0,
-      (a.1.0, a.1.1, end, marks_in_step (states_set lent all) (g.B.Buffers.bus c.ask.new.self.buffers) new (c.fill.ensures.marks (calls_of all) a.1.2) a.1.3, c.fill.ensures.waits ∙ a.1.4),
+      (a.1.0, a.1.1, end, marks_in_step (to_tell lent all) (g.B.Buffers.bus c.ask.new.self.buffers) new (c.fill.ensures.marks (calls_of all) a.1.2) a.1.3, c.fill.ensures.waits ∙ a.1.4),
       a.2,
       λ m r. elim c.fill.ensures.held [ inl x ↦ inl (goes_some g.B.Buffers.two c.fill.new.self new (calls_of all) x.0 end x.1 r) | inr x ↦ inr (a.3 x.0) ],
     )
@@ -91,7 +91,7 @@ returns-else-is_ready-clause-asked g c = λ lent past h.
           (ap (λ (x : ℕ). x == 0) (sym c.taken.ensures.waits) ∙ sym v.is_known.ensures ∙ v.if-is_known.false)
       | else-is_ready-via-else-is_ready v ↦ may_unready (is_ready c.args.self.now.layer.endpoint) c.args.self.now.reports.left (sym c.is_ready.ensures ∙ v.if-is_ready.false)
     ]
-    in ([], (h.0, h.1, linked, reported_in_step t.0 (states_set lent past) old t.1 seen t.2 t.4 h.3, c.taken.ensures.waits ∙ h.4), tt, λ m r. absurd (let x : true ≡ false = sym m ∙ may in cc))
+    in ([], (h.0, h.1, linked, reported_in_step t.0 (to_tell lent past) old t.1 seen t.2 t.4 h.3, c.taken.ensures.waits ∙ h.4), tt, λ m r. absurd (let x : true ≡ false = sym m ∙ may in cc))
 
 pub returns-then-is_known-clause-marks : goal.returns-then-is_known-clause-marks
 returns-then-is_known-clause-marks g c = λ lent past h.
@@ -101,7 +101,7 @@ returns-then-is_known-clause-marks g c = λ lent past h.
     let t = c.taken_1-count.ensures in
     let P : Bus1 → Type 0 = λ x. Link1 c.taken.new.self x (calls_of past) in
     let linked = subst P (sym t.4) (c.taken.ensures.linked t.1 (calls_of past) (sym t.3) (goes1 t.0 c.args.self.now.reports old t.1 (calls_of past) t.2 h.2)) in
-    let a = c.ask.ensures.asked lent past (h.0, h.1, linked, reported_in_step t.0 (states_set lent past) old t.1 seen t.2 t.4 h.3, c.taken.ensures.waits ∙ h.4) in
+    let a = c.ask.ensures.asked lent past (h.0, h.1, linked, reported_in_step t.0 (to_tell lent past) old t.1 seen t.2 t.4 h.3, c.taken.ensures.waits ∙ h.4) in
     marks_then old (b c.ask.new.self.buffers) (b c.fill.new.buffers)
     (marks_then old seen (b c.ask.new.self.buffers) (reported_marks t.0 old t.1 seen t.2 t.4) (subst (λ x. KeepsMarks seen (g.B.Buffers.bus x)) (sym c.ask.ensures.buffers) (λ r. (r, refl))))
     (c.fill.ensures.marks (calls_of (a.0 ++ past)) a.1.2)

@@ -5,7 +5,7 @@ use Rattle.usb_device.specs.Events.{InAsked}
 use Rattle.usb_device.specs.Steps.{LayerState, change_of, state_of}
 use Rattle.usb_device.specs.Through.{calls_of}
 use Rattle.usb_device.specs.representation.Link1.{InStep}
-use Rattle.usb_device.specs.representation.Layered.{endpoint_set, with_state, states_set}
+use Rattle.usb_device.specs.representation.Layered.{endpoint_set, with_state, to_tell}
 use Rattle.usb_device.proofs.Pausing.{unsent_in, paused_in}
 use Rattle.usb_device.proofs.Layering.{states_in_step}
 use Rattle.usb_device.proofs.device.DeviceEndpoints.in_packet.Goals as goal
@@ -16,16 +16,16 @@ returns-clause-refines g c = λ calls p.
     let change = c.in_packet-answer.result.1 in
     let e = c.in_packet-answer.ensures in
     let b = g.B.Buffers.bus c.answered.new.buffers in
-    let states = with_state (endpoint_set (change_of (state_of p.0 p.1).stage)) (states_set p.0 p.1) in
+    let states = with_state (endpoint_set (change_of (state_of p.0 p.1).stage)) (to_tell p.0 p.1) in
     let same : change ≡ change_of (state_of p.0 p.1).stage = e.change ∙ ap (λ (s : LayerState). change_of s.stage) p.2.0.state in
-    let S : Option Change → Type 0 = λ x. InStep (with_state (endpoint_set x) (states_set p.0 p.1)) (g.B.Buffers.bus c.follow.new.buffers) in (
+    let S : Option Change → Type 0 = λ x. InStep (with_state (endpoint_set x) (to_tell p.0 p.1)) (g.B.Buffers.bus c.follow.new.buffers) in (
       p.0,
       InAsked answer ∷ p.1,
       (
         e.refines p.0 p.1 p.2.0,
         e.session p.0 p.1 p.2.0 p.2.1,
         c.answered.ensures.linked (calls_of p.1) (c.follow.ensures.linked (calls_of p.1) p.2.2),
-        states_in_step states (g.B.Buffers.bus c.follow.new.buffers) b c.answered.ensures.reported (subst S same (c.follow.ensures.reported (states_set p.0 p.1) p.2.3)),
+        states_in_step states (g.B.Buffers.bus c.follow.new.buffers) b c.answered.ensures.reported (subst S same (c.follow.ensures.reported (to_tell p.0 p.1) p.2.3)),
         paused_in p.0 p.1 answer change c.follow.new.reports.protocol c.args.self.now.reports.left c.follow.new.reports.left c.answered.new.self.left (e.refines p.0 p.1 p.2.0).answered same (c.follow.ensures.linked (calls_of p.1) p.2.2).asked p.2.4 c.follow.ensures.waits c.answered.ensures.waits,
       ),
       ap (λ x. In answer ∷ x) p.3,
@@ -41,16 +41,16 @@ returns-clause-kept g c = λ from k.
       λ lent past h. (let y = k.1 lent past h in
           let all = y.0 ++ past in
           let stage = (state_of lent all).stage in
-          let states = with_state (endpoint_set (change_of stage)) (states_set lent all) in
+          let states = with_state (endpoint_set (change_of stage)) (to_tell lent all) in
           let next = e.refines lent all y.1.0 in
           let same : change ≡ change_of stage = e.change ∙ ap (λ (s : LayerState). change_of s.stage) y.1.0.state in
-          let S : Option Change → Type 0 = λ x. InStep (with_state (endpoint_set x) (states_set lent all)) (g.B.Buffers.bus c.follow.new.buffers) in (
+          let S : Option Change → Type 0 = λ x. InStep (with_state (endpoint_set x) (to_tell lent all)) (g.B.Buffers.bus c.follow.new.buffers) in (
             InAsked answer ∷ y.0,
             (
               next,
               e.session lent all y.1.0 y.1.1,
               c.answered.ensures.linked (calls_of all) (c.follow.ensures.linked (calls_of all) y.1.2),
-              states_in_step states (g.B.Buffers.bus c.follow.new.buffers) b c.answered.ensures.reported (subst S same (c.follow.ensures.reported (states_set lent all) y.1.3)),
+              states_in_step states (g.B.Buffers.bus c.follow.new.buffers) b c.answered.ensures.reported (subst S same (c.follow.ensures.reported (to_tell lent all) y.1.3)),
               paused_in lent all answer change c.follow.new.reports.protocol c.args.self.now.reports.left c.follow.new.reports.left c.answered.new.self.left next.answered same (c.follow.ensures.linked (calls_of all) y.1.2).asked y.1.4 c.follow.ensures.waits c.answered.ensures.waits,
             ),
             y.2,
