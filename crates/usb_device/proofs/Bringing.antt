@@ -15,7 +15,6 @@ use Rattle.usb_device.specs.Steps.{Stage, Theirs, Sending, Status, Over, state_o
 use Rattle.usb_device.specs.States.{setup_in, endpoint_by, wakeup_by}
 use Rattle.usb_device.specs.Through.{calls_of}
 use Rattle.usb_device.specs.WholeReads.{joined, is_last}
-use Rattle.usb_device.specs.Confirmed.{asked_of}
 use Rattle.usb_device.specs.Bus.{Bus, InMode, Naks, Sends, Stalls, is_pending}
 use Rattle.usb_device.specs.Bus1.{no_polls}
 use Rattle.usb_device.specs.Given.{got_of, given_of, Hands, WereGiven}
@@ -24,6 +23,7 @@ use Rattle.usb_device.specs.representation.Link.{Link}
 use Rattle.usb_device.specs.Answered.{served_in, Brings, AllStalled, WasAnswered}
 use Rattle.usb_device.proofs.Stating.{standing, same_lent}
 use Rattle.usb_device.proofs.Layering.{given_same}
+use Rattle.usb_device.proofs.Pausing.{asked_in}
 
 -- the packets of the layer, put together
 take-add : (n m : ℕ) (s : List ℕ) → take (n + m) s ≡ take n s ++ take m (drop n s)
@@ -225,19 +225,6 @@ brings_by (Sending b a sent) None setup given theirs h = absurd h
 brings_by (Sending b a sent) (Some (Sets other)) setup given theirs h = absurd h
 brings_by (Status change) None setup given theirs h = absurd h
 brings_by Over None setup given theirs h = absurd h
-
-asked_in : (past : List Event) → asked_of (calls_of past) ≡ setup_in past
-asked_in [] = refl
-asked_in (SetupCame bytes ∷ past) = refl
-asked_in (OutCame packet answer ∷ past) = asked_in past
-asked_in (InAsked answer ∷ past) = asked_in past
-asked_in (PollAsked answer ∷ past) = asked_in past
-asked_in (ResetCame ∷ past) = refl
-asked_in (SuspendCame ∷ past) = asked_in past
-asked_in (ResumeCame ∷ past) = asked_in past
-asked_in (StatusSeen ∷ past) = asked_in past
-asked_in (ScanCame ∷ past) = asked_in past
-asked_in (WakeAsked has_report answer ∷ past) = asked_in past
 
 brings : (lent : Lent) (past : List Event) (setup : List ℕ) (packets : List (List ℕ)) → AllAnswered lent past → setup_in past ≡ Some setup → given_of (calls_of past) ≡ packets
     → WasAnswered lent past setup packets
