@@ -1,11 +1,11 @@
-//! A report of the protocol before, which a host is to forget.
+//! Reports without usages, which follow a new protocol.
 
-ghost use Rattle.std.specs.Prelude.{◌≡◌, ◌==◌, ◌&&◌, ◌||◌, not, false, [], ℕ, List};
+ghost use Rattle.std.specs.Prelude.{◌≡◌, ◌||◌, ◌&&◌, [], List};
 ghost use Rattle.std.specs.Option.{option_map};
 ghost use Rattle.usb_device.specs.Bus1.{sets_protocol};
 ghost use Rattle.usb_device.specs.Calls.{EpCall};
 ghost use Rattle.usb_device.specs.States.{is_empty_packet};
-ghost use Rattle.usb_device.specs.Forgetting.{blank, bytes_of, chosen, names_boot};
+ghost use Rattle.usb_device.specs.Forgetting.{first_of, is_consumer, is_keys, names_boot, owed_by, owed_if, rest_of};
 ghost use Rattle.usb_device.specs.representation.Forgetting.{RefinesBehind, forgets_of};
 
 use crate::packets::held;
@@ -24,26 +24,85 @@ const KEYS: [u8; 23] = [
     1, 0, 0, 0, 0, 0, 0, 0, 0, 0, 0, 0, 0, 0, 0, 0, 0, 0, 0, 0, 0, 0, 0,
 ];
 
+/// The reports without usages that are owed to the host.
+#[derive(Clone, Copy, PartialEq, Eq)]
+pub(crate) enum Owed {
+    Nothing,
+    /// The boot report.
+    Boot,
+    /// That of the keys, that of the consumer usages, or first the one and then the other.
+    Keys,
+    Consumer,
+    Both,
+}
+
+impl Owed {
+    /// What is owed where the protocol is set and reports of these kinds were given.
+    fn by(to_boot: bool, keys: bool, consumer: bool) -> Owed
+        ensures { result ≡ owed_by to_boot keys consumer }
+    {
+        match (to_boot, keys, consumer) {
+            (true, false, false) => Owed::Nothing,
+            (true, _, _) => Owed::Boot,
+            (false, true, true) => Owed::Both,
+            (false, true, false) => Owed::Keys,
+            (false, false, true) => Owed::Consumer,
+            (false, false, false) => Owed::Nothing,
+        }
+    }
+
+    /// The first of the reports.
+    fn first(self) -> Option<Report>
+        ensures { option_map (λ r. r.items) result ≡ first_of self }
+    {
+        match self {
+            Owed::Nothing => None,
+            Owed::Boot => Some(held(&BOOT)),
+            Owed::Keys | Owed::Both => Some(held(&KEYS)),
+            Owed::Consumer => Some(held(&CONSUMER)),
+        }
+    }
+
+    /// What is owed behind the first.
+    fn rest(self) -> Owed
+        ensures { result ≡ rest_of self }
+    {
+        match self {
+            Owed::Both => Owed::Consumer,
+            Owed::Nothing | Owed::Boot | Owed::Keys | Owed::Consumer => Owed::Nothing,
+        }
+    }
+}
+
 /// What is kept of the calls.
 #[derive(Drop)]
 pub(crate) struct Forgets {
     /// Whether the transfer under way sets the protocol, and whether it names the boot protocol.
     sets: bool,
     to_boot: bool,
-    /// Whether the protocol was set since the newest poll.
-    was_set: bool,
-    is_boot: bool,
-    /// The bytes of the report that the newest poll gave, 0 for none.
-    given: usize,
+    /// Whether a report of keys was given since the last reset, and one of consumer usages.
+    keys: bool,
+    consumer: bool,
+    owed: Owed,
 }
 
-/// The bytes of a report.
-fn bytes_of(report: &Option<Report>) -> usize
-    ensures { result ≡ bytes_of (option_map (λ r. r.items) report.now) }
+/// Whether there is a report of consumer usages.
+fn is_consumer(report: &Option<Report>) -> bool
+    ensures { result ≡ is_consumer (option_map (λ r. r.items) report.now) }
 {
     match report {
-        Some(report) => report.len(),
-        None => 0,
+        Some(report) => report.len() == CONSUMER_BYTES,
+        None => false,
+    }
+}
+
+/// Whether there is a report of keys.
+fn is_keys(report: &Option<Report>) -> bool
+    ensures { result ≡ is_keys (option_map (λ r. r.items) report.now) }
+{
+    match report {
+        Some(report) => report.len() != CONSUMER_BYTES,
+        None => false,
     }
 }
 
@@ -55,9 +114,9 @@ impl Forgets {
         Forgets {
             sets: false,
             to_boot: false,
-            was_set: false,
-            is_boot: false,
-            given: 0,
+            keys: false,
+            consumer: false,
+            owed: Owed::Nothing,
         }
     }
 
@@ -72,50 +131,33 @@ impl Forgets {
     /// This was the answer to an IN token.
     fn answered(&mut self, answer: &EpAnswer)
         ensures { self.new ≡ record self.old {
-          was_set = (is_empty_packet answer.now && self.old.sets) || self.old.was_set;
-          is_boot = chosen (is_empty_packet answer.now && self.old.sets) self.old.to_boot self.old.is_boot;
+          owed = owed_if (is_empty_packet answer.now && self.old.sets) (owed_by self.old.to_boot self.old.keys self.old.consumer) self.old.owed;
         } }
     {
         if is_empty(answer) && self.sets {
-            self.was_set = true;
-            self.is_boot = self.to_boot;
+            self.owed = Owed::by(self.to_boot, self.keys, self.consumer);
         }
     }
 
     /// This was the answer to a poll.
     fn polled(&mut self, report: &Option<Report>)
-        ensures { self.new ≡ record self.old { was_set = false; given = bytes_of (option_map (λ r. r.items) report.now) } }
+        ensures { self.new ≡ record self.old {
+          keys = is_keys (option_map (λ r. r.items) report.now) || self.old.keys;
+          consumer = is_consumer (option_map (λ r. r.items) report.now) || self.old.consumer;
+          owed = rest_of self.old.owed;
+        } }
     {
-        self.was_set = false;
-        self.given = bytes_of(report);
-    }
-
-    /// Whether a report is to be forgotten.
-    fn is_due(&self) -> bool
-        ensures { result ≡ self.now.was_set && not (self.now.given == 0) }
-    {
-        self.was_set && self.given != 0
-    }
-
-    /// The report without usages in place of the one that is to be forgotten.
-    fn blank(&self) -> Report
-        ensures { result.items ≡ blank self.now.is_boot self.now.given }
-    {
-        if self.is_boot {
-            held(&BOOT)
-        } else if self.given == CONSUMER_BYTES {
-            held(&CONSUMER)
-        } else {
-            held(&KEYS)
-        }
+        self.keys = is_keys(report) || self.keys;
+        self.consumer = is_consumer(report) || self.consumer;
+        self.owed = self.owed.rest();
     }
 }
 
-/// A device whose host forgets a report of the protocol before.
+/// A device whose host holds no usage of the protocol before.
 ///
-/// A report that is under way while the host sets the protocol (HID 1.11 section 7.2.6) is of the one before, and the host may
-/// take it for one of the new protocol. So one of the new protocol without usages answers the next poll. All else goes to the
-/// device behind.
+/// A new protocol (HID 1.11 section 7.2.6) drops a report that waits, and the host may have one of the protocol before, and take it
+/// for one of the new. A key of it that is up again would stay down. So the next polls are answered by the reports of the new
+/// protocol without usages, each of a kind that the host may have. All else goes to the device behind.
 #[derive(Drop)]
 pub struct Forgetting<E> {
     pub(crate) forgets: Forgets,
@@ -155,14 +197,17 @@ impl<E: Endpoints> Endpoints for Forgetting<E> {
     }
 
     fn poll(&mut self) -> Option<Report> {
-        if self.forgets.is_due() {
-            let report = Some(self.forgets.blank());
-            self.forgets.polled(&report);
-            report
-        } else {
-            let report = self.behind.poll();
-            self.forgets.polled(&report);
-            report
+        match self.forgets.owed.first() {
+            Some(report) => {
+                let blank = Some(report);
+                self.forgets.polled(&blank);
+                blank
+            }
+            None => {
+                let report = self.behind.poll();
+                self.forgets.polled(&report);
+                report
+            }
         }
     }
 

@@ -12,6 +12,7 @@ ghost use Rattle.usb_device.specs.Bus.{Bus, Seen, InGot, Naks, NaksOut, nothing_
 ghost use Rattle.usb_device.specs.Bus1.{Bus1, sent_of, no_polls};
 ghost use Rattle.usb_device.specs.Answered.{AllStalled, WasAnswered, served_in};
 ghost use Rattle.usb_device.specs.Given.{got_of, WereGiven};
+ghost use Rattle.usb_device.specs.Forgetting.{Shows, first_of, owed};
 ghost use Rattle.usb_device.specs.Reports.{GotInOrder};
 ghost use Rattle.usb_device.specs.Pauses.{Ends, pause_of, scans_in};
 ghost use Rattle.usb_device.specs.representation.Link1.{ReportState, Link1};
@@ -102,6 +103,14 @@ pub fn a_poll_is_nothing_to_endpoint_0()
 #[tactic(auto, using(crate::proofs::Reporting::same_reports))]
 pub fn a_transfer_is_nothing_to_endpoint_1()
     ensures { (s : ReportState) (b : Bus1) (calls later : List EpCall) → Link1 s b calls → sent_of later ≡ sent_of calls → asked_of later ≡ asked_of calls → Link1 s b later }
+{}
+
+/// No key stays down behind SET_PROTOCOL, though a release that waited was dropped: where reports without usages are owed, each poll is
+/// answered by the first of them.
+#[tactic(auto, using(crate::proofs::Blanks::given_first))]
+pub fn what_is_owed_is_given()
+    ensures { (calls kept after before : List EpCall) (answer : Option (List ℕ)) (report : List ℕ) → Shows calls kept → calls ≡ after ++ (Polled answer ∷ before)
+        → first_of (owed before) ≡ Some report → answer ≡ Some report }
 {}
 
 /// What a string descriptor holds of a text is whole characters.

@@ -28,7 +28,7 @@ same_transfers _ _ (same (Out packet answer) calls kept p s) = ap (λ x. Out pac
 same_transfers _ _ (same (In answer) calls kept p s) = ap (λ x. In answer ∷ x) (same_transfers calls kept s)
 same_transfers _ _ (same (Polled answer) calls kept p s) = same_transfers calls kept s
 same_transfers _ _ (same BusReset calls kept p s) = ap (λ x. BusReset ∷ x) (same_transfers calls kept s)
-same_transfers _ _ (instead calls kept d s) = same_transfers calls kept s
+same_transfers _ _ (instead report calls kept d s) = same_transfers calls kept s
 
 module _ (defaults : DefaultCodes) where
   pub stored_where_forgotten : (calls kept : List EpCall) (keyboard : KeyboardValue) (image : List ℕ) (later : List Seen) (setup data_ : List ℕ) (command : Command)
@@ -46,7 +46,7 @@ asked_same _ _ (same (Out packet answer) calls kept p s) = asked_same calls kept
 asked_same _ _ (same (In answer) calls kept p s) = asked_same calls kept s
 asked_same _ _ (same (Polled answer) calls kept p s) = asked_same calls kept s
 asked_same _ _ (same BusReset calls kept p s) = refl
-asked_same _ _ (instead calls kept d s) = asked_same calls kept s
+asked_same _ _ (instead report calls kept d s) = asked_same calls kept s
 
 command_same : (calls kept : List EpCall) (packet : List ℕ) → asked_of calls ≡ asked_of kept → is_command calls packet ≡ is_command kept packet
 unfolding is_command
@@ -66,7 +66,7 @@ taken_same _ _ (same (Out packet Stall) calls kept p s) = taken_same calls kept 
 taken_same _ _ (same (In answer) calls kept p s) = taken_same calls kept s
 taken_same _ _ (same (Polled answer) calls kept p s) = taken_same calls kept s
 taken_same _ _ (same BusReset calls kept p s) = taken_same calls kept s
-taken_same _ _ (instead calls kept d s) = taken_same calls kept s
+taken_same _ _ (instead report calls kept d s) = taken_same calls kept s
 
 module _ (defaults : DefaultCodes) where
   pub since : (start : List ℕ) (later past : List Call) (calls more : List EpCall) → Shows calls (usb_calls past) → Shows more (usb_calls (later ++ past))

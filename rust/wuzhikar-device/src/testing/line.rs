@@ -334,7 +334,6 @@ impl Line {
         }
         if sets_protocol(setup) {
             self.is_boot = Some(setup[2] == 0);
-            self.known.clear();
         }
         if is_conforming_command(setup, self.host.data()) {
             self.counts.confirmed += 1;

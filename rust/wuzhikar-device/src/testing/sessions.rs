@@ -35,6 +35,7 @@ pub fn session<F: Firmware>() -> &'static Wired<F::Registers> {
         run.sets_a_key_and_hears_it();
         run.halts();
         run.changes_the_protocol();
+        run.drops_releases();
         run.sleeps_and_wakes();
         run.is_reset();
     });
@@ -130,6 +131,38 @@ impl<F: Firmware> Run<F> {
             let key = self.known(id, length).map_or(0, |report| report[2]);
             assert_eq!(key, if number == 0 { 5 } else { 0 }, "key 0 behind SET_PROTOCOL {number}");
         }
+    }
+
+    /// Releases of a key and of a consumer usage wait when the protocol is set, and are dropped. Then no key is touched, and none stays
+    /// down. With packets of 8 bytes no host does this.
+    fn drops_releases(&mut self) {
+        if F::product().identity().packet_size.bytes() == 8 {
+            return;
+        }
+        // Key 1 raises the volume.
+        self.transfer(SET_FEATURE, &[3, 1, 0, 1, 0xe9, 0x40]);
+        for protocols in [&[1][..], &[0, 1], &[0, 0, 1, 1]] {
+            self.holds(3);
+            self.polls();
+            assert_eq!([self.is_down(1, 23), self.is_down(2, 9)], [true; 2], "a key and the volume");
+            self.holds(0);
+            self.serve();
+            for number in protocols {
+                self.transfer(set_protocol(*number), &[]);
+            }
+            self.polls();
+            assert_eq!([self.is_down(1, 23), self.is_down(2, 9)], [false; 2], "a key and the volume behind {protocols:?}");
+        }
+        self.transfer(set_protocol(0), &[]);
+        self.polls();
+        assert!(!self.is_down(0, 8), "a key of the boot protocol, where this comes again");
+        self.transfer(set_protocol(1), &[]);
+        self.polls();
+    }
+
+    /// Whether the host knows a usage of this report.
+    fn is_down(&self, id: u8, length: usize) -> bool {
+        self.known(id, length).is_some_and(|report| report.iter().skip(usize::from(id > 0)).any(|byte| *byte != 0))
     }
 
     /// A key wakes the host once in a suspend, where it has enabled that.

@@ -96,8 +96,8 @@ fn reports_come_in_the_packets_of_the_endpoint() {
         assert_eq!((lengths(&all), &all.concat()[..3]), (keys.to_vec(), &[1, 0, 1][..]));
         assert_eq!(ask(&mut device, SET_BOOT), None);
         let all = packets(&mut device);
-        // The host asked for these 8 bytes; no empty packet follows.
-        assert_eq!(all, [[0, 0, 4, 0, 0, 0, 0, 0]]);
+        // The host asked for each 8 bytes; no empty packet follows.
+        assert_eq!(all, [[0; 8], [0, 0, 4, 0, 0, 0, 0, 0]]);
     }
 }
 
