@@ -63,7 +63,7 @@ served_if false served = None
 abbrev pub names : SetupFields → ℕ → ℕ → Bool
 names r value index = (r.value == value) && (r.index == index)
 
--- GET_STATUS (9.4.5): of the device, whose bit 1 is whether remote wakeup is enabled, of interface 0, of endpoint 0 in either
+-- GET_STATUS (9.4.5): of the device, which the bus powers, and whose bit 1 is whether remote wakeup is enabled, of interface 0, of endpoint 0 in either
 -- direction, of endpoint 1
 abbrev pub device_status : Bool → SetupFields → Option Served
 device_status wakeup r = served_if (names r 0 0) (Reads (2 * bit wakeup ∷ 0 ∷ []))

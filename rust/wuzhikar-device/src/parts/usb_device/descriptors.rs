@@ -12,7 +12,8 @@ use arrayvec::ArrayVec;
 pub struct Descriptors<'a> {
     /// The device descriptor (section 9.6.1).
     pub device: &'a [u8],
-    /// The configuration descriptor with those of its interface and endpoint (section 9.6.3).
+    /// The configuration descriptor with those of its interface and endpoint (section 9.6.3). Bit 6 of its bmAttributes is clear:
+    /// GET_STATUS says that the bus powers the device (section 9.4.5).
     pub configuration: &'a [u8],
     /// The HID descriptor (HID 1.11 section 6.2.1).
     pub hid: &'a [u8],
