@@ -6,10 +6,8 @@
 //! in = data BYTES       an IN token; or `nak`, `stall NUMBER`; `-` is the empty packet
 //! scans COUNT KEYS      so many equal scans
 //! poll = BYTES          the report of a poll, or `nak`
-//! work BYTES = working  a step of the flash work, torn by a mask if there are bytes; or `idle`, `settled`, `failed`
-//! cut BYTES             the power is cut, inside a step torn by the mask if there are bytes
-//! reset                 a bus reset
-//! leds = BYTE           the LEDs
+//! work = working        a step of the flash work; or `idle`, `settled`, `failed`
+//! cut                   the power is cut
 //! usage BYTE = 01       whether a usage of page 07h is held
 //! entry LAYER KEY = CODE
 //! slot PAGE SLOT = BYTES
@@ -69,15 +67,8 @@ impl<D: Defaults> BoardOf<D> {
             ("in", _) => return answered(&self.keyboard.in_packet()),
             ("scans", rest) => self.scans(rest),
             ("poll", _) => return self.keyboard.poll().map_or("nak".into(), |report| hex(&report)),
-            ("work", mask) => return format!("{:?}", self.work(mask_of(mask).as_deref())).to_lowercase(),
-            ("cut", mask) => {
-                if let Some(mask) = mask_of(mask) {
-                    let _torn = self.work(Some(&mask));
-                }
-                self.cut();
-            }
-            ("reset", _) => self.keyboard.bus_reset(),
-            ("leds", _) => return hex(&[self.keyboard.leds()]),
+            ("work", _) => return format!("{:?}", self.work(None)).to_lowercase(),
+            ("cut", _) => self.cut(),
             ("usage", usage) => return hex(&[u8::from(self.keyboard.usages().has_key(bytes(usage)[0]))]),
             ("entry", rest) => {
                 let (layer, key) = two(rest);
@@ -103,10 +94,6 @@ impl<D: Defaults> BoardOf<D> {
 fn two(rest: &str) -> (usize, usize) {
     let (one, other) = word(rest);
     (number(one), number(other))
-}
-
-fn mask_of(digits: &str) -> Option<Vec<u8>> {
-    (!digits.is_empty()).then(|| bytes(digits))
 }
 
 fn answered(answer: &EpAnswer) -> String {

@@ -2,7 +2,5 @@
 
 mod board;
 mod commands;
-mod endpoint;
 mod layouts;
-mod sessions;
 mod wavering;

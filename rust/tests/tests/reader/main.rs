@@ -1,7 +1,5 @@
 //! What `wuzhikar-reader` says of report descriptors and of reports.
 
-mod faults;
-mod fields;
 mod large;
 mod lenient;
 mod pieces;
