@@ -4,8 +4,8 @@
 //! device, with descriptors and names that a maker lends (`Descriptors`), and hands everything else on to the device behind
 //! it (`Endpoints`). `ControlBuffers` and `ReportBuffers` hand the packets of endpoints 0 and 1 to a controller beforehand
 //! (`Controller`, `Buffers`). `write` makes a whole control write and `read` a whole control read, for a stack that keeps endpoint 0 to
-//! itself. `Guarded` is a maker's lock and pace of feature commands (`guard_theorems`), and `Forgetting` lets a host forget a report
-//! that was under way while the protocol was set. It takes no memory and needs no `unsafe`. Sections are those of USB 2.0.
+//! itself. `Guarded` is a maker's lock and pace of feature commands (`guard_theorems`), and `Forgetting` lets no key
+//! stay down where the protocol is set (`theorems::what_is_owed_is_given`). It takes no memory and needs no `unsafe`. Sections are those of USB 2.0.
 //!
 //! The guarantee: a control write that the host saw the end of was acknowledged, and then confirmed by the empty packet, in
 //! the session of the device behind, whatever acknowledgements were lost (`theorems::confirmed_on_the_bus`); `usb_keyboard` leads

@@ -52,8 +52,8 @@ impl<D: Defaults> HasKeyboard for &mut KeyboardOf<D> {
     type Defaults = D;
 }
 
-/// A keyboard and the flash that it started on, as the [`Endpoints`] behind the layer: its host forgets a report of the
-/// protocol before.
+/// A keyboard and the flash that it started on, as the [`Endpoints`] behind the layer: behind SET_PROTOCOL no key stays
+/// down.
 ///
 /// `K` is the keyboard itself, or a `&mut` of one where it lies elsewhere, as in a `static` (`start_in`). Its calls of the
 /// bus are exported from the proved source.
