@@ -6,7 +6,7 @@
 //! it (`Endpoints`). `ControlBuffers` and `ReportBuffers` hand the packets of endpoints 0 and 1 to a controller beforehand
 //! (`Controller`, `Buffers`). `write` makes a whole control write and `read` a whole control read, for a stack that keeps endpoint 0 to
 //! itself. `Guarded` is a maker's lock and pace of feature commands, and `Forgetting` lets no key
-//! stay down where the protocol is set (`theorems::what_is_owed_is_given`). It takes no memory and needs no `unsafe`. Sections are those of USB 2.0.
+//! stay down where the protocol is set. It takes no memory and needs no `unsafe`. Sections are those of USB 2.0.
 //!
 //! The guarantee: a control write that the host saw the end of was acknowledged, and then confirmed by the empty packet, in
 //! the session of the device behind, whatever acknowledgements were lost. Each answer of a standard request is that of tables 9-3 and 9-4 in the state that the
