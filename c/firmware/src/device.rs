@@ -66,7 +66,7 @@ impl IdentityIn {
             manufacturer: name(&self.manufacturer)?,
             product: name(&self.product)?,
             serial_number: name(&self.serial_number)?,
-            packet_size: PacketSize::of(self.packet_size.into()).ok_or(Status::Range)?,
+            packet_size: PacketSize::from_bytes(self.packet_size.into()).ok_or(Status::Range)?,
             interval: Interval::milliseconds(self.interval).ok_or(Status::Range)?,
             power: Power::milliamperes(self.milliamperes).ok_or(Status::Range)?,
             remote_wakeup: self.remote_wakeup != 0,
@@ -101,7 +101,7 @@ pub extern "C" fn wz_device_start(
         let flash = Flash::from_table(&flash)?;
         let codes = checked(&layout)?;
         let identity = identity.get()?.read()?;
-        let product: &'static Product<'static> = memory.product.insert(Product::of(identity));
+        let product: &'static Product<'static> = memory.product.insert(Product::new(identity));
         let bus = Bus(memory.driver.insert(Driver::from_table(&driver)?));
         let behind = start_in(&mut memory.keyboard, flash, codes, paced(pace)?)?;
         let layer = DeviceLayer::new(product.descriptors());

@@ -50,7 +50,7 @@ use wuzhikar_device::{Identity, Product, utf16};
 #[cfg(feature = "buffers")]
 use wuzhikar_device::{Keys, UsbDevice};
 
-static PRODUCT: Product = Product::of(Identity {
+static PRODUCT: Product = Product::new(Identity {
     manufacturer: utf16!("Example"),
     product: utf16!("Wuzhikar keyboard"),
     serial_number: utf16!("nRF51"),

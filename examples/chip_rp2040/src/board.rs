@@ -46,7 +46,7 @@ impl Layout for Codes {
 }
 
 /// What the host reads. Vendor 1209h, product 0001h is for tests: put in your own.
-pub static PRODUCT: Product<'static> = Product::of(Identity {
+pub static PRODUCT: Product<'static> = Product::new(Identity {
     manufacturer: utf16!("Example"),
     product: utf16!("Wuzhikar keyboard"),
     serial_number: utf16!("RP2040"),

@@ -15,7 +15,7 @@ static PRODUCTS: [Product<'static>; 4] = [
 ];
 
 const fn product(packet_size: PacketSize) -> Product<'static> {
-    Product::of(Identity {
+    Product::new(Identity {
         manufacturer: utf16!("Example"),
         product: utf16!("Wuzhikar keyboard"),
         serial_number: utf16!("0001"),
@@ -39,7 +39,7 @@ impl Bench {
     }
 
     fn on(flash: SimFlash, packet: usize) -> Option<Bench> {
-        let size = PacketSize::of(packet)?;
+        let size = PacketSize::from_bytes(packet)?;
         let product = PRODUCTS.iter().find(|product| product.identity().packet_size == size)?;
         Device::start(flash, product).ok().map(Bench)
     }

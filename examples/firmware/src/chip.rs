@@ -8,7 +8,7 @@ use wuzhikar_device::{Change, EpAnswer, Identity, PollAnswer, Product, utf16};
 
 /// What the keyboard is called: put your own here. Vendor 1209h, product 0001h is an ID for tests and not for products.
 /// Packets of 16 bytes, asked for each millisecond, are what a BIOS takes, too.
-pub static PRODUCT: Product = Product::of(Identity {
+pub static PRODUCT: Product = Product::new(Identity {
     vendor_id: 0x1209,
     product_id: 0x0001,
     release: 0x0100,

@@ -17,7 +17,7 @@ const SERIAL_NUMBER: u8 = 3;
 impl PacketSize {
     /// Returns the size of so many bytes (wMaxPacketSize, USB 2.0 section 9.6.6), or `None` if that is none of 8, 16, 32, 64.
     /// Some BIOSes take no more than 16.
-    pub const fn of(bytes: usize) -> Option<PacketSize> {
+    pub const fn from_bytes(bytes: usize) -> Option<PacketSize> {
         match bytes {
             8 => Some(PacketSize::Bytes8),
             16 => Some(PacketSize::Bytes16),
@@ -92,7 +92,7 @@ impl Default for Power {
 /// ```
 /// use wuzhikar_device::{Identity, Interval, PacketSize, Power, Product, utf16};
 ///
-/// static PRODUCT: Product = Product::of(Identity {
+/// static PRODUCT: Product = Product::new(Identity {
 ///     manufacturer: utf16!("Example"),
 ///     product: utf16!("Keyboard"),
 ///     packet_size: PacketSize::Bytes16,
@@ -160,13 +160,13 @@ pub struct Product<'a> {
 
 impl Product<'static> {
     /// The product of [`Identity::TEST`], for tests and not for products.
-    pub const TEST: Product<'static> = Product::of(Identity::TEST);
+    pub const TEST: Product<'static> = Product::new(Identity::TEST);
 }
 
 impl<'a> Product<'a> {
     /// Makes the descriptors of an identity (USB 2.0 sections 9.6.1 and 9.6.3, HID 1.11 section 6.2.1). In a `static` they
     /// take no RAM.
-    pub const fn of(identity: Identity<'a>) -> Product<'a> {
+    pub const fn new(identity: Identity<'a>) -> Product<'a> {
         let (mut device, mut configuration, mut hid) = (DEVICE_DESCRIPTOR, CONFIGURATION_DESCRIPTOR, HID_DESCRIPTOR);
         [device[8], device[9]] = identity.vendor_id.to_le_bytes();
         [device[10], device[11]] = identity.product_id.to_le_bytes();

@@ -64,14 +64,14 @@ impl Lenient {
     ///
     /// // A field of 64 bits, which becomes padding.
     /// let text = [0x06, 0x00, 0xff, 0x95, 1, 0x75, 64, 0x09, 1, 0x81, 0x02];
-    /// if let Some(lenient) = Lenient::of(&text)? {
+    /// if let Some(lenient) = Lenient::rewrite(&text)? {
     ///     assert_eq!(lenient.passed()[0].fault, ParseFault::SizeTooLarge);
     ///     assert!(parse(lenient.text())?.fields().is_empty());
     /// }
-    /// # assert!(Lenient::of(&text)?.is_some());
+    /// # assert!(Lenient::rewrite(&text)?.is_some());
     /// # Ok::<(), Box<dyn core::error::Error>>(())
     /// ```
-    pub fn of(text: &[u8]) -> Result<Option<Lenient>, AllocError> {
+    pub fn rewrite(text: &[u8]) -> Result<Option<Lenient>, AllocError> {
         lenient_parse::rewritten((), text)
     }
 }

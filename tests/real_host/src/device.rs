@@ -7,7 +7,7 @@ use wuzhikar::{Mask, Scan, SimFlash, Work};
 use wuzhikar_device::{Identity, NotDone, PacketSize, PollAnswer, Product, utf16};
 
 /// Vendor 1209h, product 0001h is an ID for tests and not for products.
-pub static PRODUCT: Product = Product::of(Identity {
+pub static PRODUCT: Product = Product::new(Identity {
     manufacturer: utf16!("Example"),
     product: utf16!("Wuzhikar keyboard"),
     serial_number: utf16!("0001"),
@@ -22,10 +22,10 @@ pub fn about(identity: &Identity) -> About {
 
 /// The product with packets of 8, 16, 32 or 64 bytes, and a serial number of its own.
 pub fn product(size: usize, serial: Option<String>) -> &'static Product<'static> {
-    let packet_size = PacketSize::of(size).expect("a packet size");
+    let packet_size = PacketSize::from_bytes(size).expect("a packet size");
     let units = |serial: String| -> &'static [u16] { serial.encode_utf16().collect::<Vec<_>>().leak() };
     let serial_number = serial.map_or(PRODUCT.identity().serial_number, units);
-    Box::leak(Box::new(Product::of(Identity { packet_size, serial_number, ..*PRODUCT.identity() })))
+    Box::leak(Box::new(Product::new(Identity { packet_size, serial_number, ..*PRODUCT.identity() })))
 }
 
 /// A keyboard on a bus.

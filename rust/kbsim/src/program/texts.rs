@@ -65,7 +65,7 @@ impl<'p> Descriptor<'p> {
         }
         let mut read = Descriptor { path, bytes, lenient: None, fault: None };
         if is_lenient && parse(&read.bytes).is_err() {
-            read.lenient = Lenient::of(&read.bytes).map_err(|_| Ended::memory())?;
+            read.lenient = Lenient::rewrite(&read.bytes).map_err(|_| Ended::memory())?;
             read.fault = read.lenient.as_ref().and_then(|lenient| parse(lenient.text()).err());
         }
         Ok(read)

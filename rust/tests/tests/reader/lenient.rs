@@ -17,7 +17,7 @@ fn refused(text: &[u8]) -> ParseError {
 fn a_text_without_a_fault_is_read_as_ever() {
     let text = [0x05, 0x01, 0x09, 0x30, 0x75, 0x08, 0x95, 0x01, 0x81, 0x02, 0xFE, 0x01, 0x07, 0x00];
     assert_eq!(read(&text), (parse(&text).expect("a text"), vec![]));
-    assert!(Lenient::of(&text).expect("memory").is_none());
+    assert!(Lenient::rewrite(&text).expect("memory").is_none());
 }
 
 #[test]

@@ -274,7 +274,7 @@ impl Registers for &Wired {
 }
 
 static PRODUCT: Product<'static> =
-    Product::of(Identity { packet_size: PacketSize::Bytes16, remote_wakeup: true, ..Identity::TEST });
+    Product::new(Identity { packet_size: PacketSize::Bytes16, remote_wakeup: true, ..Identity::TEST });
 
 /// What a maker ships.
 struct Plain;

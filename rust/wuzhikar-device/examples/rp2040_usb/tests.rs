@@ -63,7 +63,7 @@ fn a_controller_that_has_stopped_stops_no_interrupt() {
 
 /// Reports of two packets, and a keyboard that may wake its host.
 static PRODUCT: Product<'static> =
-    Product::of(Identity { packet_size: PacketSize::Bytes16, remote_wakeup: true, ..Identity::TEST });
+    Product::new(Identity { packet_size: PacketSize::Bytes16, remote_wakeup: true, ..Identity::TEST });
 
 /// The driver of a flash with error correction, whose cells are shared.
 struct Corrected(&'static RefCell<Vec<u8>>);

@@ -140,11 +140,11 @@ impl Registers for OnWire<Played> {
 
 /// Reports of one packet, and a keyboard that may wake its host.
 static PLAIN: Product<'static> =
-    Product::of(Identity { packet_size: PacketSize::Bytes32, remote_wakeup: true, ..Identity::TEST });
+    Product::new(Identity { packet_size: PacketSize::Bytes32, remote_wakeup: true, ..Identity::TEST });
 
 /// Reports of up to three packets, and a keyboard that may not wake its host.
 static SMALL: Product<'static> =
-    Product::of(Identity { packet_size: PacketSize::Bytes8, remote_wakeup: false, ..Identity::TEST });
+    Product::new(Identity { packet_size: PacketSize::Bytes8, remote_wakeup: false, ..Identity::TEST });
 
 /// What a maker ships.
 struct Shipped<const IS_SMALL: bool>;

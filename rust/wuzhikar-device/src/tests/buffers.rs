@@ -11,7 +11,7 @@ use std::cell::RefCell;
 use wuzhikar::{Defaults, KeyNo, KeyboardOf, LayerNo, Scan, SimFlash, Standard};
 
 const fn product(packet_size: PacketSize) -> Product<'static> {
-    Product::of(Identity { packet_size, product: crate::utf16!("Keys"), ..Identity::TEST })
+    Product::new(Identity { packet_size, product: crate::utf16!("Keys"), ..Identity::TEST })
 }
 
 /// Products with each packet size.

@@ -15,7 +15,7 @@ const SET_FEATURE: [u8; 8] = [0x21, 0x09, 3, 3, 0, 0, 6, 0];
 const GET_FEATURE: [u8; 8] = [0xa1, 0x01, 3, 3, 0, 0, 6, 0];
 
 const fn product(packet_size: PacketSize) -> Product<'static> {
-    Product::of(Identity { packet_size, ..Identity::TEST })
+    Product::new(Identity { packet_size, ..Identity::TEST })
 }
 
 static PRODUCTS: [Product<'static>; 4] =
@@ -196,7 +196,7 @@ fn a_reset_and_a_cut_drop_a_report_under_way() {
 
 #[test]
 fn an_identity_changes_its_own_bytes_alone() {
-    let product = Product::of(Identity {
+    let product = Product::new(Identity {
         packet_size: PacketSize::Bytes64,
         interval: Interval::milliseconds(255).unwrap(),
         power: Power::milliamperes(499).unwrap(),
@@ -214,7 +214,7 @@ fn an_identity_changes_its_own_bytes_alone() {
         bytes
     });
     for size in 0..100 {
-        assert_eq!(PacketSize::of(size).map(PacketSize::bytes), [8, 16, 32, 64].contains(&size).then_some(size));
+        assert_eq!(PacketSize::from_bytes(size).map(PacketSize::bytes), [8, 16, 32, 64].contains(&size).then_some(size));
     }
     assert_eq!(Interval::milliseconds(0), None);
     assert_eq!([0, 1, 501].map(Power::milliamperes), [None; 3]);

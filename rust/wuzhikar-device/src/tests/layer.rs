@@ -41,7 +41,7 @@ const KEY_0_IS_B: [u8; 6] = [3, 1, 0, 0, 5, 0];
 const READY: Change = Change::Endpoint(Endpoint1::Ready);
 const STALL: EpAnswer = EpAnswer::Stall;
 
-static PRODUCT: Product = Product::of(IDENTITY);
+static PRODUCT: Product = Product::new(IDENTITY);
 
 type Board = Keys<SimFlash>;
 

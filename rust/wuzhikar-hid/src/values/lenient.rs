@@ -32,7 +32,7 @@ impl Reader {
         if refused == ReaderError::Memory || matches!(refused, ReaderError::Parse(error) if error.fault == ParseFault::Memory) {
             return Err(refused);
         }
-        let lenient = Lenient::of(text).map_err(|_| ReaderError::Memory)?.ok_or(refused)?;
+        let lenient = Lenient::rewrite(text).map_err(|_| ReaderError::Memory)?.ok_or(refused)?;
         match Reader::new(lenient.text()) {
             Ok(reader) => Ok((reader, Some(lenient))),
             Err(ReaderError::Parse(ParseError { fault, offset })) => {

@@ -134,7 +134,7 @@ fn an_address_is_taken_behind_its_status_stage_alone() {
 
 #[test]
 fn a_key_wakes_a_host_that_asked_for_it() {
-    static WAKES: Product = Product::of(Identity { remote_wakeup: true, ..Identity::TEST });
+    static WAKES: Product = Product::new(Identity { remote_wakeup: true, ..Identity::TEST });
     for (enabled, ends) in [(true, false), (false, false), (true, true)] {
         let bus = quiet(1);
         let mut usb = device(&WAKES, SimFlash::blank(2).unwrap(), &bus);

@@ -79,7 +79,7 @@ fn a_halt_stalls_each_poll_until_it_ends() {
 
 #[test]
 fn a_host_enables_remote_wakeup_where_the_product_has_it() {
-    static WAKES: Product = Product::of(Identity { remote_wakeup: true, ..IDENTITY });
+    static WAKES: Product = Product::new(Identity { remote_wakeup: true, ..IDENTITY });
     const SET_WAKEUP: [u8; 8] = [0, 3, 1, 0, 0, 0, 0, 0];
     const CLEAR_WAKEUP: [u8; 8] = [0, 1, 1, 0, 0, 0, 0, 0];
     let mut device = Device::of(&WAKES);

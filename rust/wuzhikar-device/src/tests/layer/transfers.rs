@@ -13,7 +13,7 @@ fn the_device_descriptor_is_the_makers() {
         assert_eq!(read, whole[..usize::from(asked)]);
     }
     // Each string that there is not has index 0.
-    static NO_PRODUCT: Product = Product::of(Identity { product: &[], ..IDENTITY });
+    static NO_PRODUCT: Product = Product::new(Identity { product: &[], ..IDENTITY });
     let descriptor = Device::of(&NO_PRODUCT).read(device_descriptor(18)).unwrap().concat();
     assert_eq!(descriptor[14..17], [1, 0, 3]);
 }
@@ -44,7 +44,7 @@ fn strings_are_served() {
     // No string, a long one, and one of other alphabets.
     const OTHER: &str = "ключ 键盘 ⌨ 𝄞";
     static OTHERS: Product =
-        Product::of(Identity { manufacturer: &[], product: utf16!(LONG), serial_number: utf16!(OTHER), ..IDENTITY });
+        Product::new(Identity { manufacturer: &[], product: utf16!(LONG), serial_number: utf16!(OTHER), ..IDENTITY });
     let mut device = Device::of(&OTHERS);
     assert_eq!(device.read(string(0)).unwrap().concat(), [4, 3, 9, 4]);
     assert_eq!(device.read(string(1)), None);
@@ -54,7 +54,7 @@ fn strings_are_served() {
     for (before, kept) in [(124, 128), (125, 125), (126, 126)] {
         let text = &*format!("{}𝄞{LONG}", &LONG[..before]).leak();
         let units: &[u16] = text.encode_utf16().collect::<Vec<_>>().leak();
-        let product = Box::leak(Box::new(Product::of(Identity { product: units, ..IDENTITY })));
+        let product = Box::leak(Box::new(Product::new(Identity { product: units, ..IDENTITY })));
         assert_eq!(Device::of(product).read(string(2)).unwrap().concat(), described(&text[..kept]));
     }
     // Without any string there are no languages.
