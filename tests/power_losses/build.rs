@@ -56,7 +56,7 @@ const WRONG: &[(&str, &[(&str, &str)])] = &[
         "switches_without_about",
         &[("    program_mark(flash, old.page as usize, about(old.index as usize), ZEROS)?;\n", "")],
     ),
-    ("renews_no_marks", &[(">= flash.triples() / 2", ">= flash.triples()")]),
+    ("renews_no_marks", &[("< flash.triples() / 2", "< flash.triples()")]),
     ("programs_in_place", &[("        if held != BLANK {", "        if false {")]),
     ("makes_over_claims", &[("    clear_claims(flash, pages - 1)?;\n", "")]),
     ("takes_over_unsettled", &[("            program_mark(flash, at, OPEN, ZEROS)?;\n", "")]),

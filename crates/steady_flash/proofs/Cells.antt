@@ -1,14 +1,15 @@
 -- Programs into a place that was erased.
-use Rattle.std.proofs.Common.{◌≡◌, ℕ, ◌<◌, ◌≤◌, List, length, get_or, bit_and, arith, sym, ◌∙◌, ap, refl, inl, inr}
+use Rattle.std.proofs.Common.{◌≡◌, ℕ, ◌<◌, ◌≤◌, ◌⊎◌, replicate, List, length, get_or, bit_and, arith, sym, ◌∙◌, ap, refl, inl, inr}
 use Rattle.std.specs.Int.{bit_at}
 use Rattle.std.proofs.lemmas.List.{get_or_past, get_or-replicate, length-replicate}
-use Rattle.std.proofs.lemmas.List.Elements.{All-nil, All-cons}
+use Rattle.std.proofs.lemmas.List.Elements.{All-nil, All-cons, All-weaker}
 use Rattle.std.proofs.lemmas.Grind.{same_number_lists}
 use Rattle.std.proofs.lemmas.Nat.Bits.{bit_at_and, bit_at-lt, bit_at-zero, bit_at_ones, bit_at_above, same_from_bits}
 use Rattle.std.proofs.lemmas.Bool.{cases_lt}
 use Rattle.flash_model.specs.Torn.{Within, ProgramMayLeave}
-use Rattle.steady_flash.specs.Cells.{IsEight, IsCells, IsReading, Written, IsProgrammed, MayBeProgrammed, blank, erased}
+use Rattle.steady_flash.specs.Cells.{IsEight, IsCells, IsReading, Written, TakesSlot, TakesMark, IsProgrammed, MayBeProgrammed, blank, erased}
 use Rattle.steady_flash.specs.Moves.{Holds, IsTorn}
+use Rattle.steady_flash.specs.Claims.{IsMarked}
 
 -- a bit of a byte is one of the eight of FFh
 byte_bit : (n i : ℕ) → n < 256 → bit_at n i ≤ bit_at 255 i
@@ -44,7 +45,7 @@ torn_again bytes mid new t p = record {
 }
 
 -- and what is then programmed as a whole has just these
-same_byte : (m b : ℕ) → ((i : ℕ) → bit_at b i ≤ bit_at m i) → bit_and m b ≡ b
+pub same_byte : (m b : ℕ) → ((i : ℕ) → bit_at b i ≤ bit_at m i) → bit_and m b ≡ b
 same_byte m b above = same_from_bits (bit_and m b) b (λ i. omega (arith, bit_at_and m b i, above i, bit_at-lt b i, bit_at-lt m i))
 
 whole : (bytes x y : List ℕ) → IsEight bytes → IsEight y → Within bytes x → ((k : ℕ) → k < 8 → get_or y k 0 ≡ bit_and (get_or x k 0) (get_or bytes k 0)) → y ≡ bytes
@@ -60,6 +61,19 @@ programmed bytes mid new e c t p some = record {
   erased_if_blank = λ is. absurd (some is);
 }
 
+-- and of a mark
+pub takes_mark : (place : Written) (bytes : List ℕ) → TakesSlot place bytes → TakesMark place bytes
+takes_mark place bytes t = All-weaker (λ (b : List ℕ). b ≡ bytes) (λ (b : List ℕ). (b ≡ bytes) ⊎ (b ≡ replicate 8 0)) (λ b e. inl e) place.begun t
+
+pub marked : (bytes : List ℕ) (mid new : Written) → IsEight bytes → IsCells new.cells → IsTorn bytes mid → IsProgrammed mid bytes new → (bytes ≡ blank → ⊥) → IsMarked bytes new
+marked bytes mid new e c t p some =
+    let h = programmed bytes mid new e c t p some in
+    record {
+      takes = rw p.begun (All-cons (λ (b : List ℕ). b ≡ bytes) bytes mid.begun refl t.takes);
+      least = h.least;
+      most = h.most;
+    }
+
 blank_eight : IsEight blank
 blank_eight = record {
   eight = length-replicate {A = ℕ} 8 255;
@@ -73,13 +87,16 @@ pub holds_erased : Holds erased blank
 holds_erased = record { eight = blank_eight; least = refl; most = refl; erased_if_blank = λ is. refl }
 
 -- with no cell in doubt there is one reading
-pub one_reading : (place : Written) (bytes read : List ℕ) → Holds place bytes → IsReading place.cells read → read ≡ bytes
-one_reading place bytes read h r =
-    same_number_lists read bytes (r.clear.same_length ∙ ap length h.most)
+pub firm_reading : (place : Written) (bytes read : List ℕ) → place.cells.least ≡ bytes → place.cells.most ≡ bytes → IsReading place.cells read → read ≡ bytes
+firm_reading place bytes read least most r =
+    same_number_lists read bytes (r.clear.same_length ∙ ap length most)
     (λ k l. same_from_bits (get_or read k 0) (get_or bytes k 0) (λ i.
-    let low : bit_at (get_or bytes k 0) i ≤ bit_at (get_or read k 0) i = rw h.least at (r.set.bits k i) in
-    let high : bit_at (get_or read k 0) i ≤ bit_at (get_or bytes k 0) i = rw h.most at (r.clear.bits k i) in
+    let low : bit_at (get_or bytes k 0) i ≤ bit_at (get_or read k 0) i = rw least at (r.set.bits k i) in
+    let high : bit_at (get_or read k 0) i ≤ bit_at (get_or bytes k 0) i = rw most at (r.clear.bits k i) in
     omega arith))
+
+pub one_reading : (place : Written) (bytes read : List ℕ) → Holds place bytes → IsReading place.cells read → read ≡ bytes
+one_reading place bytes read h r = firm_reading place bytes read h.least h.most r
 
 -- what a torn program leaves reads as a torn program of steady cells
 pub torn_reading : (bytes : List ℕ) (place : Written) (read : List ℕ) → IsEight bytes → IsEight read → IsTorn bytes place → IsReading place.cells read → ProgramMayLeave blank bytes read

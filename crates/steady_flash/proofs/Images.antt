@@ -1,10 +1,10 @@
 -- The bytes of pages by their slots.
-use Rattle.std.proofs.Common.{◌≡◌, ℕ, ◌+◌, ◌*◌, ◌/◌, ◌%◌, ◌<◌, ◌≤◌, List, length, get_or, arith, sym, ◌∙◌, ap, inl, inr, refl}
+use Rattle.std.proofs.Common.{◌≡◌, ℕ, ◌+◌, ◌*◌, ◌/◌, ◌%◌, ◌<◌, List, length, get_or, arith, sym, ◌∙◌, inl, inr, refl}
 use Rattle.std.proofs.lemmas.Bool.{cases_lt}
 use Rattle.std.proofs.lemmas.List.{get_or_past}
 use Rattle.std.proofs.lemmas.List.FromFn.{length-map-range_with_len, get_or-map-range_with_len}
 use Rattle.std.proofs.lemmas.Grind.{same_number_lists}
-use Rattle.flash_model.specs.Image.{place_of, slot_at, page_count, IsImage}
+use Rattle.flash_model.specs.Image.{place_of, slot_at}
 use Rattle.flash_model.specs.Operations.{OneSlot, OnePage}
 use Rattle.flash_model.proofs.Places.{slot_byte, slot_room}
 use Rattle.flash_model.proofs.Writes.{one_slot, one_page}

@@ -1,3 +1,11 @@
 pub mod Cells
 pub mod Images
 pub mod Session
+pub mod Words
+pub mod Finding
+pub mod Layouts
+pub mod Settling
+pub mod Shows
+pub mod Claiming
+pub mod Tearing
+pub mod Witness

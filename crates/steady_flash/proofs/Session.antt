@@ -44,12 +44,12 @@ kept_by_same layout after old new settled same pages page = record {
 }
 
 -- which page of the flash holds which after a move
-there_after : (size : Size) (layout : Layout) (new : ℕ → ℕ → Written) (page p s : ℕ) → IsLaidOut size layout → page < layout.pages → p ≡ page → new (held_at (moved layout page).held p).page s ≡ new layout.spare s
+pub there_after : (size : Size) (layout : Layout) (new : ℕ → ℕ → Written) (page p s : ℕ) → IsLaidOut size layout → page < layout.pages → p ≡ page → new (held_at (moved layout page).held p).page s ≡ new layout.spare s
 there_after size layout new page p s l b e =
     ap (λ (q : ℕ). new (held_at (moved layout page).held q).page s) e
     ∙ ap (λ (h : Held). new h.page s) (get_or-set_same {A = Held} layout.held page _ _ (omega (arith, l.placed.eight, l.placed.served.most)))
 
-elsewhere_after : (size : Size) (layout : Layout) (old new : ℕ → ℕ → Written) (page p s : ℕ) → IsLaidOut size layout → p < layout.pages → p ≢ page → OnePageOfPlaces old layout.spare new → new (held_at (moved layout page).held p).page s ≡ old (held_at layout.held p).page s
+pub elsewhere_after : (size : Size) (layout : Layout) (old new : ℕ → ℕ → Written) (page p s : ℕ) → IsLaidOut size layout → p < layout.pages → p ≢ page → OnePageOfPlaces old layout.spare new → new (held_at (moved layout page).held p).page s ≡ old (held_at layout.held p).page s
 elsewhere_after size layout old new page p s l b apart o =
     ap (λ (h : Held). new h.page s) (get_or-set_other {A = Held} layout.held page p _ _ apart)
     ∙ o (held_at layout.held p).page s (l.free p b)

@@ -3,3 +3,5 @@ pub mod Marked
 pub mod Layout
 pub mod Moves
 pub mod Shown
+pub mod Healthy
+pub mod Claims

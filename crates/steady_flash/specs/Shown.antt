@@ -4,7 +4,7 @@ use Rattle.std.specs.Prelude.{◌≡◌, ℕ, ◌*◌, ◌/◌, ◌%◌, ◌<◌
 use Rattle.std.specs.List.{range_with_len}
 use Rattle.flash_model.specs.Torn.{ProgramMayLeave}
 use Rattle.flash_model.specs.declared.TheConstants.{PAGE_SLOTS}
-use Rattle.steady_flash.specs.Cells.{Written, blank}
+use Rattle.steady_flash.specs.Cells.{Written, IsReading, blank}
 use Rattle.steady_flash.specs.Layout.{held_at}
 use Rattle.steady_flash.specs.Moves.{Holds}
 use Rattle.steady_flash.specs.declared.layout.Layout.{Layout}
@@ -24,6 +24,12 @@ bytes_of slot pages = map (λ j. slice_index (slot (j / 4096) (j % 4096 / 8)) (j
 -- the image of the log's flash
 abbrev pub image_of : (ℕ → ℕ → Written) → Layout → Bytes
 image_of slots layout = bytes_of (shown slots layout) layout.pages
+
+-- an image in which each slot is one that the cells of its place may read as
+pub record IsReadImage (slots : ℕ → ℕ → Written) (layout : Layout) (image : Bytes) : Type 0 where
+  pub read : ℕ → ℕ → Bytes
+  pub is_of : image ≡ bytes_of read layout.pages
+  pub reads : (p s : ℕ) → p < layout.pages → s < PAGE_SLOTS → IsReading (slots (held_at layout.held p).page s).cells (read p s)
 
 -- each slot of the log is as it was
 pub record IsKept (old : ℕ → ℕ → Written) (layout : Layout) (new : ℕ → ℕ → Written) (after : Layout) : Type 0 where

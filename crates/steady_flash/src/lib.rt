@@ -16,6 +16,7 @@ pub mod marks;
 pub mod moving;
 pub mod starting;
 pub mod steady;
+pub mod theorems;
 
 pub use errors::{MountError, Unmounted};
 use flash_model::{FlashFault, PAGE_SLOTS, SLOT_BYTES};

@@ -1,6 +1,7 @@
 //! The pages of a flash on which none are found.
 
-ghost use Rattle.std.specs.Prelude.{length, ◌≡◌, ◌+◌, ◌-◌, ◌*◌, ◌<◌, ◌≤◌, ◌^◌, ℕ, IfOk};
+ghost use Rattle.std.specs.Prelude.{length, false, ◌≡◌, ◌+◌, ◌-◌, ◌*◌, ◌<◌, ◌≤◌, ◌^◌, ℕ, IfOk, IfErr, IsOk};
+ghost use Rattle.steady_flash.specs.Healthy.{IsRefusal, IsRefused};
 ghost use Rattle.steady_flash.specs.Layout.{held_at, IsServed, IsPlaced, IsLaidOut};
 
 use crate::layout::Layout;
@@ -14,6 +15,7 @@ use flash_model::PAGE_SLOTS;
 pub fn take_over<F: MarkedFlash>(flash: &mut F) -> Result<Layout, MountError>
     ensures same_size { F.size flash.new ≡ F.size flash.old }
     ensures laid_out { IfOk result (λ layout. IsLaidOut (F.size flash.old) layout) }
+    ensures healthy { F.is_healthy flash.old → F.is_healthy flash.new × IfErr result IsRefusal }
 {
     match start(flash) {
         Err(MountError::Unformatted) => make(flash, true),
@@ -25,6 +27,7 @@ pub fn take_over<F: MarkedFlash>(flash: &mut F) -> Result<Layout, MountError>
 pub fn format<F: MarkedFlash>(flash: &mut F) -> Result<Layout, MountError>
     ensures same_size { F.size flash.new ≡ F.size flash.old }
     ensures laid_out { IfOk result (λ layout. IsLaidOut (F.size flash.old) layout) }
+    ensures healthy { F.is_healthy flash.old → F.is_healthy flash.new × IfErr result IsRefusal }
 {
     match start(flash) {
         Ok(layout) => erase_each(flash, layout),
@@ -41,6 +44,7 @@ fn erase_each<F: MarkedFlash>(flash: &mut F, layout: Layout) -> Result<Layout, M
     requires { IsLaidOut (F.size flash.old) layout }
     ensures same_size { F.size flash.new ≡ F.size flash.old }
     ensures laid_out { IfOk result (λ layout. IsLaidOut (F.size flash.old) layout) }
+    ensures healthy { F.is_healthy flash.old → F.is_healthy flash.new × IfErr result IsRefusal }
 {
     let mut layout = layout;
     if is_worn(&layout) {
@@ -63,6 +67,7 @@ fn erase_each<F: MarkedFlash>(flash: &mut F, layout: Layout) -> Result<Layout, M
 fn is_worn(layout: &Layout) -> bool
     requires eight { length layout.now.held ≡ 8 }
     requires most { layout.now.pages ≤ 8 }
+    ensures { result ≡ false → (p : ℕ) → p < layout.now.pages → (held_at layout.now.held p).number ≤ LAST_WRITTEN }
 {
     for page in 0..layout.pages {
         if layout.held[page].number > LAST_WRITTEN {
@@ -77,6 +82,7 @@ fn make<F: MarkedFlash>(flash: &mut F, keeps: bool) -> Result<Layout, MountError
     requires { IsServed (F.size flash.old) ((F.size flash.old).pages - 1) }
     ensures same_size { F.size flash.new ≡ F.size flash.old }
     ensures laid_out { IfOk result (λ layout. IsLaidOut (F.size flash.old) layout) }
+    ensures healthy { F.is_healthy flash.old → F.is_healthy flash.new × IfErr result IsRefusal }
 {
     match make_pages(flash, keeps) {
         Ok(()) => start(flash),
@@ -87,6 +93,7 @@ fn make<F: MarkedFlash>(flash: &mut F, keeps: bool) -> Result<Layout, MountError
 fn make_pages<F: MarkedFlash>(flash: &mut F, keeps: bool) -> Result<(), Stop>
     requires { IsServed (F.size flash.old) ((F.size flash.old).pages - 1) }
     ensures same_size { F.size flash.new ≡ F.size flash.old }
+    ensures healthy { F.is_healthy flash.old → IsOk result × F.is_healthy flash.new }
 {
     let pages = flash.pages() - 1;
     clear_claims(flash, pages - 1)?;
@@ -101,6 +108,7 @@ fn clear_claims<F: MarkedFlash>(flash: &mut F, at: usize) -> Result<(), Stop>
     requires in_pages { at < (F.size flash.old).pages }
     requires few { (F.size flash.old).triples < 1000 }
     ensures same_size { F.size flash.new ≡ F.size flash.old }
+    ensures healthy { F.is_healthy flash.old → IsOk result × F.is_healthy flash.new }
 {
     for index in 0..flash.triples() {
         program_mark(flash, at, claim(index), ZEROS)?;
@@ -111,6 +119,7 @@ fn clear_claims<F: MarkedFlash>(flash: &mut F, at: usize) -> Result<(), Stop>
 fn erase_all_marks<F: MarkedFlash>(flash: &mut F, pages: usize) -> Result<(), Stop>
     requires { IsServed (F.size flash.old) pages }
     ensures same_size { F.size flash.new ≡ F.size flash.old }
+    ensures healthy { F.is_healthy flash.old → IsOk result × F.is_healthy flash.new }
 {
     for at in 0..pages + 1 {
         erase_marks(flash, at)?;
@@ -122,6 +131,7 @@ fn erase_all_marks<F: MarkedFlash>(flash: &mut F, pages: usize) -> Result<(), St
 fn begin_pages<F: MarkedFlash>(flash: &mut F, pages: usize, keeps: bool) -> Result<(), Stop>
     requires { IsServed (F.size flash.old) pages }
     ensures same_size { F.size flash.new ≡ F.size flash.old }
+    ensures healthy { F.is_healthy flash.old → IsOk result × F.is_healthy flash.new }
 {
     for at in 0..pages {
         if keeps {
@@ -136,6 +146,7 @@ fn begin_pages<F: MarkedFlash>(flash: &mut F, pages: usize, keeps: bool) -> Resu
 fn claim_pages<F: MarkedFlash>(flash: &mut F, pages: usize) -> Result<(), Stop>
     requires { IsServed (F.size flash.old) pages }
     ensures same_size { F.size flash.new ≡ F.size flash.old }
+    ensures healthy { F.is_healthy flash.old → IsOk result × F.is_healthy flash.new }
 {
     for page in 0..pages {
         program_mark(
@@ -151,6 +162,7 @@ fn claim_pages<F: MarkedFlash>(flash: &mut F, pages: usize) -> Result<(), Stop>
 fn finish_pages<F: MarkedFlash>(flash: &mut F, pages: usize) -> Result<(), Stop>
     requires { IsServed (F.size flash.old) pages }
     ensures same_size { F.size flash.new ≡ F.size flash.old }
+    ensures healthy { F.is_healthy flash.old → IsOk result × F.is_healthy flash.new }
 {
     for page in 0..pages {
         program_mark(flash, page, done(0), done_bytes(Place { pages, at: page }))?;
@@ -168,6 +180,7 @@ struct Marks {
 /// Why not each page is found, by whatever reads as a mark: one of another geometry may stand where this one has a slot.
 pub fn why_not_found<F: MarkedFlash>(flash: &F, pages: usize) -> MountError
     requires { IsServed (F.size flash.now) pages }
+    ensures healthy { F.is_healthy flash.now → IsRefusal result }
 {
     let mut marks = Marks {
         is_other: false,

@@ -1,7 +1,8 @@
 //! The marks of a page, and their words.
 
-ghost use Rattle.std.specs.Prelude.{◌≡◌, ◌+◌, ◌*◌, ◌<◌, ◌≤◌, ◌^◌, IfSome, IsSome};
+ghost use Rattle.std.specs.Prelude.{◌≡◌, ◌+◌, ◌*◌, ◌<◌, ◌≤◌, ◌^◌, ℕ, IfSome, IsSome};
 ghost use Rattle.steady_flash.specs.Marked.{IsMarkWord};
+ghost use Rattle.steady_flash.specs.Claims.{IsClaim, word_of};
 
 use flash_model::SLOT_BYTES;
 
@@ -70,18 +71,19 @@ pub fn claim_bytes(place: Place, page: usize, number: u32) -> [u8; SLOT_BYTES]
     requires at { place.at ≤ 8 }
     requires page { page < 8 }
     requires number { number < 2 ^ 21 }
-    ensures { IsMarkWord result }
+    ensures { IsClaim place.pages place.at page number result }
 {
     let pages = (place.pages - 1) as u32;
     let at = place.at as u32;
-    mark_bytes((page as u32) << PAGE_AT | pages << PAGES_AT | at << PLACE_AT | number)
+    mark_bytes(((page as u32) << PAGE_AT) + (pages << PAGES_AT) + (at << PLACE_AT) + number)
 }
 
 /// The word of a mark, of whatever geometry, if these bytes are one.
 pub fn read_word(bytes: [u8; SLOT_BYTES]) -> Option<Word>
     ensures number { IfSome result (λ word. word.number < 2 ^ 21) }
     // no other bytes are a word
-    ensures words { IsSome result → IsMarkWord bytes }
+    ensures claims { IfSome result (λ word. IsClaim word.place.pages word.place.at word.page word.number bytes) }
+    ensures found { (pages at page number : ℕ) → 2 ≤ pages → pages ≤ 8 → at ≤ pages → number < 2 ^ 21 → IsClaim pages at page number bytes → IfSome result (λ word. (word.page ≡ page) × (word.number ≡ number)) × IsSome result }
 {
     let [a, b, c, d, _, _, _, _] = bytes;
     let word = u32::from_le_bytes([a, b, c, d]);
@@ -104,7 +106,7 @@ pub fn read_word(bytes: [u8; SLOT_BYTES]) -> Option<Word>
 pub fn done_bytes(place: Place) -> [u8; SLOT_BYTES]
     requires pages { (1 ≤ place.pages) × (place.pages ≤ 8) }
     requires at { place.at ≤ 8 }
-    ensures { IsMarkWord result }
+    ensures { IsClaim place.pages place.at 0 0 result }
 {
     claim_bytes(place, 0, 0)
 }
@@ -112,7 +114,8 @@ pub fn done_bytes(place: Place) -> [u8; SLOT_BYTES]
 /// A word beside its complement, which is turned by a bit: so no word of a log is a mark. Each has as many clear bits as each other
 /// one, so that no torn program of one reads as another.
 fn mark_bytes(word: u32) -> [u8; SLOT_BYTES]
-    ensures { IsMarkWord result }
+    ensures marked { IsMarkWord result }
+    ensures word { word_of result ≡ word }
 {
     let [a, b, c, d] = word.to_le_bytes();
     let [e, f, g, h] = (!word).rotate_left(1).to_le_bytes();

@@ -1,6 +1,8 @@
 //! How a page moves: to the spare page, or to a greater number.
 
-ghost use Rattle.std.specs.Prelude.{◌≡◌, ◌+◌, ◌*◌, ◌<◌, ◌≤◌, ◌^◌, ℕ, MatchResult, IfOk};
+ghost use Rattle.std.specs.Prelude.{◌≡◌, ◌+◌, ◌*◌, ◌<◌, ◌≤◌, ◌^◌, ℕ, MatchResult, IfOk, IfErr, IsOk};
+ghost use Rattle.steady_flash.specs.Healthy.{IsRefused};
+ghost use Rattle.steady_flash.specs.Claims.{IsSameOpen, HasRoom, IsRaised, IsMarked, IsErasedMarks, IsClaimed};
 ghost use Rattle.steady_flash.specs.Marked.{Same, OnePlace, OnePageOfPlaces};
 ghost use Rattle.steady_flash.specs.Cells.{blank, erased};
 ghost use Rattle.steady_flash.specs.Moves.{Holds, IsTorn, IsCopied, IsErasedPage, IsCopy, moved};
@@ -46,8 +48,11 @@ pub fn program_mark<F: MarkedFlash>(
     requires in_page { mark ≤ 3 * (F.size flash.old).triples }
     ensures same_size { F.size flash.new ≡ F.size flash.old }
     ensures slots { Same (F.slots flash.old) (F.slots flash.new) }
+    ensures healthy { F.is_healthy flash.old → IsOk result × F.is_healthy flash.new }
+    ensures marks { OnePlace (F.marks flash.old) at mark (F.marks flash.new) }
+    ensures outcome { F.marks flash.old at mark ≡ erased → (bytes ≡ blank → ⊥) → IfOk result (λ _. IsMarked bytes (F.marks flash.new at mark)) }
 {
-    for _ in 0..TRIES {
+    for _tried in 0..TRIES {
         match flash.program_mark(at, mark, bytes) {
             Ok(()) => return Ok(()),
             Err(_) => {}
@@ -70,8 +75,10 @@ pub fn program_slot<F: MarkedFlash>(
     ensures outcome { F.slots flash.old at slot ≡ erased → (bytes ≡ blank → ⊥) → MatchResult result
         (λ _. Holds (F.slots flash.new at slot) bytes)
         (λ _. IsTorn bytes (F.slots flash.new at slot)) }
+    ensures healthy { F.is_healthy flash.old → IsOk result × F.is_healthy flash.new }
+    ensures marks { Same (F.marks flash.old) (F.marks flash.new) }
 {
-    for _ in 0..TRIES {
+    for _tried in 0..TRIES {
         match flash.program_slot(at, slot, bytes) {
             Ok(()) => return Ok(()),
             Err(_) => {}
@@ -85,8 +92,11 @@ pub fn erase_marks<F: MarkedFlash>(flash: &mut F, at: usize) -> Result<(), Stop>
     requires { at < (F.size flash.old).pages }
     ensures same_size { F.size flash.new ≡ F.size flash.old }
     ensures slots { Same (F.slots flash.old) (F.slots flash.new) }
+    ensures healthy { F.is_healthy flash.old → IsOk result × F.is_healthy flash.new }
+    ensures marks { OnePageOfPlaces (F.marks flash.old) at (F.marks flash.new) }
+    ensures outcome { IfOk result (λ _. IsErasedMarks (F.marks flash.new) (F.size flash.old).triples at) }
 {
-    for _ in 0..TRIES {
+    for _tried in 0..TRIES {
         match flash.erase_marks(at) {
             Ok(()) => return Ok(()),
             Err(_) => {}
@@ -101,8 +111,10 @@ pub fn erase_slots<F: MarkedFlash>(flash: &mut F, at: usize) -> Result<(), Stop>
     ensures same_size { F.size flash.new ≡ F.size flash.old }
     ensures others { OnePageOfPlaces (F.slots flash.old) at (F.slots flash.new) }
     ensures outcome { IfOk result (λ _. IsErasedPage (F.slots flash.new) at) }
+    ensures healthy { F.is_healthy flash.old → IsOk result × F.is_healthy flash.new }
+    ensures marks { Same (F.marks flash.old) (F.marks flash.new) }
 {
-    for _ in 0..TRIES {
+    for _tried in 0..TRIES {
         match flash.erase_slots(at) {
             Ok(()) => return Ok(()),
             Err(_) => {}
@@ -117,6 +129,9 @@ pub fn prepare<F: MarkedFlash>(flash: &mut F, layout: &Layout) -> Result<(), Sto
     ensures same_size { F.size flash.new ≡ F.size flash.old }
     ensures others { OnePageOfPlaces (F.slots flash.old) layout.now.spare (F.slots flash.new) }
     ensures outcome { IfOk result (λ _. IsErasedPage (F.slots flash.new) layout.now.spare) }
+    ensures healthy { F.is_healthy flash.old → IsOk result × F.is_healthy flash.new }
+    ensures marks { OnePageOfPlaces (F.marks flash.old) layout.now.spare (F.marks flash.new) }
+    ensures erased_marks { IfOk result (λ _. IsErasedMarks (F.marks flash.new) (F.size flash.old).triples layout.now.spare) }
 {
     erase_marks(flash, layout.spare)?;
     erase_slots(flash, layout.spare)
@@ -134,6 +149,8 @@ fn copy<F: MarkedFlash>(
     ensures same_size { F.size flash.new ≡ F.size flash.old }
     ensures others { OnePageOfPlaces (F.slots flash.old) to (F.slots flash.new) }
     ensures outcome { (from ≡ to → ⊥) → IsErasedPage (F.slots flash.old) to → IfOk result (λ _. IsCopy (F.slots flash.old) from changed (F.slots flash.new) to) }
+    ensures healthy { F.is_healthy flash.old → IsOk result × F.is_healthy flash.new }
+    ensures marks { Same (F.marks flash.old) (F.marks flash.new) }
 {
     for slot in 0..PAGE_SLOTS {
         let bytes = copied(flash, from, slot, changed);
@@ -170,6 +187,9 @@ pub fn switch<F: MarkedFlash>(flash: &mut F, layout: &mut Layout, page: usize) -
     ensures same_pages { layout.new.pages ≡ layout.old.pages }
     ensures slots { Same (F.slots flash.old) (F.slots flash.new) }
     ensures moved { MatchResult result (λ _. layout.new ≡ moved layout.old page) (λ _. layout.new ≡ layout.old) }
+    ensures healthy { F.is_healthy flash.old → F.is_healthy flash.new × IfErr result IsRefused × ((held_at layout.old.held page).number + 1 < 2 ^ 21 → IsOk result) }
+    ensures opened { IsSameOpen (F.marks flash.old) (F.marks flash.new) }
+    ensures claimed { IsClaimed (F.size flash.old) (F.marks flash.old) layout.old → IsErasedMarks (F.marks flash.old) (F.size flash.old).triples layout.old.spare → IfOk result (λ _. IsClaimed (F.size flash.old) (F.marks flash.new) layout.new) }
 {
     let old = layout.held[page];
     let to = layout.spare;
@@ -214,6 +234,9 @@ pub fn move_page<F: MarkedFlash>(
     ensures others { OnePageOfPlaces (F.slots flash.old) layout.old.spare (F.slots flash.new) }
     ensures moved { MatchResult result (λ _. layout.new ≡ moved layout.old page) (λ _. layout.new ≡ layout.old) }
     ensures copied { IfOk result (λ _. IsCopy (F.slots flash.old) (held_at layout.old.held page).page changed (F.slots flash.new) layout.old.spare) }
+    ensures healthy { F.is_healthy flash.old → F.is_healthy flash.new × IfErr result IsRefused × ((held_at layout.old.held page).number + 1 < 2 ^ 21 → IsOk result) }
+    ensures opened { (q : ℕ) → (q ≡ layout.old.spare → ⊥) → F.marks flash.new q 0 ≡ F.marks flash.old q 0 }
+    ensures claimed { IsClaimed (F.size flash.old) (F.marks flash.old) layout.old → IfOk result (λ _. IsClaimed (F.size flash.old) (F.marks flash.new) layout.new) }
 {
     prepare(flash, layout)?;
     copy(
@@ -239,6 +262,9 @@ pub fn erase_page<F: MarkedFlash>(
     ensures others { OnePageOfPlaces (F.slots flash.old) layout.old.spare (F.slots flash.new) }
     ensures moved { MatchResult result (λ _. layout.new ≡ moved layout.old page) (λ _. layout.new ≡ layout.old) }
     ensures erased { IfOk result (λ _. IsErasedPage (F.slots flash.new) layout.old.spare) }
+    ensures healthy { F.is_healthy flash.old → F.is_healthy flash.new × IfErr result IsRefused × ((held_at layout.old.held page).number + 1 < 2 ^ 21 → IsOk result) }
+    ensures opened { (q : ℕ) → (q ≡ layout.old.spare → ⊥) → F.marks flash.new q 0 ≡ F.marks flash.old q 0 }
+    ensures claimed { IsClaimed (F.size flash.old) (F.marks flash.old) layout.old → IfOk result (λ _. IsClaimed (F.size flash.old) (F.marks flash.new) layout.new) }
 {
     prepare(flash, layout)?;
     switch(flash, layout, page)
@@ -252,6 +278,11 @@ pub fn bump<F: MarkedFlash>(flash: &mut F, layout: &mut Layout, page: usize) -> 
     ensures laid_out { IsLaidOut (F.size flash.old) layout.new }
     ensures same_pages { layout.new.pages ≡ layout.old.pages }
     ensures slots { Same (F.slots flash.old) (F.slots flash.new) }
+    ensures healthy { F.is_healthy flash.old → F.is_healthy flash.new × IfErr result IsRefused }
+    ensures opened { IsSameOpen (F.marks flash.old) (F.marks flash.new) }
+    ensures same_places { (p : ℕ) → (held_at layout.new.held p).page ≡ (held_at layout.old.held p).page }
+    ensures complete { F.is_healthy flash.old → HasRoom (F.size flash.old).triples (held_at layout.old.held page) → IsOk result }
+    ensures numbers { (p : ℕ) → IsRaised (held_at layout.old.held p) (held_at layout.new.held p) (p ≡ page) }
 {
     let held = layout.held[page];
     let at = held.page as usize;

@@ -1,12 +1,14 @@
 //! A start: it finds the pages, and settles what a power loss left in doubt.
 
-ghost use Rattle.std.specs.Prelude.{◌≡◌, ◌≢◌, ◌+◌, ◌-◌, ◌&&◌, nat_lt, length, if◌then◌else◌, ◌*◌, ◌<◌, ◌≤◌, ◌^◌, ℕ, IsTrue, ◌↔◌, IfOk};
-ghost use Rattle.steady_flash.specs.Marked.{Size};
+ghost use Rattle.std.specs.Prelude.{◌≡◌, ◌≢◌, ◌+◌, ◌-◌, ◌&&◌, nat_lt, length, if◌then◌else◌, ◌*◌, ◌<◌, ◌≤◌, ◌^◌, ℕ, IsTrue, ◌↔◌, IfOk, IfErr, IsOk};
+ghost use Rattle.steady_flash.specs.Healthy.{IsRefusal, IsRefused};
+ghost use Rattle.steady_flash.specs.Claims.{IsClaim, IsClaimed, IsFound, IsFoundTo, IsTaken, IsKeptOr, IsOpenTold, IsSettledPage, IsSameOpen, IsUntouched, IsOurs, IsUnheld, HasRoom, IsRaised};
+ghost use Rattle.steady_flash.specs.Marked.{Size, Same};
 ghost use Rattle.steady_flash.specs.Layout.{held_at, IsServed, IsPlaced, IsLaidOut};
 
 use crate::layout::{Held, Layout, MOST_PAGES, NOWHERE};
 use crate::making::why_not_found;
-use crate::marks::{BLANK, OPEN, about, claim, done, done_bytes, read_word};
+use crate::marks::{BLANK, OPEN, Word, about, claim, done, done_bytes, read_word};
 use crate::moving::{Stop, TRIES, bump, move_page};
 use crate::{MarkedFlash, MountError};
 use flash_model::SLOT_BYTES;
@@ -22,6 +24,9 @@ pub fn start<F: MarkedFlash>(flash: &mut F) -> Result<Layout, MountError>
     ensures served { result ≢ Err MountError.PageCount → result ≢ Err MountError.Triples → IsServed (F.size flash.old) ((F.size flash.old).pages - 1) }
     ensures same_size { F.size flash.new ≡ F.size flash.old }
     ensures laid_out { IfOk result (λ layout. IsLaidOut (F.size flash.old) layout) }
+    ensures healthy { F.is_healthy flash.old → F.is_healthy flash.new × IfErr result IsRefusal }
+    ensures settled { F.is_healthy flash.old → (before : Layout) → IsClaimed (F.size flash.old) (F.marks flash.old) before → IfOk result (λ layout. (layout.pages ≡ before.pages) × ((p : ℕ) → p < before.pages → IsOpenTold (F.marks flash.old) (F.slots flash.old) (held_at before.held p).page → IsSettledPage (F.slots flash.old) (held_at before.held p).page (F.slots flash.new) layout p)) }
+    ensures complete { F.is_healthy flash.old → (before : Layout) → IsClaimed (F.size flash.old) (F.marks flash.old) before → IsOurs (F.size flash.old) (F.marks flash.old) before.pages → ((p : ℕ) → p < before.pages → HasRoom (F.size flash.old).triples (held_at before.held p)) → IsOk result }
 {
     let count = flash.pages();
     if count < 3 || count > MOST_PAGES + 1 {
@@ -31,7 +36,7 @@ pub fn start<F: MarkedFlash>(flash: &mut F) -> Result<Layout, MountError>
     if triples < LEAST_TRIPLES || triples > MOST_TRIPLES {
         return Err(MountError::Triples);
     }
-    for _ in 0..TRIES {
+    for _tried in 0..TRIES {
         match settle_all(flash, count - 1) {
             Ok(layout) => return Ok(layout),
             Err(Stop::Named(why)) => return Err(why),
@@ -46,6 +51,9 @@ fn settle_all<F: MarkedFlash>(flash: &mut F, pages: usize) -> Result<Layout, Sto
     requires { IsServed (F.size flash.old) pages }
     ensures same_size { F.size flash.new ≡ F.size flash.old }
     ensures laid_out { IfOk result (λ layout. IsLaidOut (F.size flash.old) layout) }
+    ensures healthy { F.is_healthy flash.old → F.is_healthy flash.new × IfErr result IsRefused }
+    ensures settled { (before : Layout) → IsClaimed (F.size flash.old) (F.marks flash.old) before → before.pages ≡ pages → IfOk result (λ layout. (layout.pages ≡ pages) × ((p : ℕ) → p < before.pages → IsOpenTold (F.marks flash.old) (F.slots flash.old) (held_at before.held p).page → IsSettledPage (F.slots flash.old) (held_at before.held p).page (F.slots flash.new) layout p)) }
+    ensures complete { F.is_healthy flash.old → (before : Layout) → IsClaimed (F.size flash.old) (F.marks flash.old) before → before.pages ≡ pages → IsOurs (F.size flash.old) (F.marks flash.old) pages → ((p : ℕ) → p < before.pages → HasRoom (F.size flash.old).triples (held_at before.held p)) → IsOk result }
 {
     let mut layout = find(flash, pages)?;
     bump_all(flash, &mut layout)?;
@@ -58,6 +66,11 @@ fn bump_all<F: MarkedFlash>(flash: &mut F, layout: &mut Layout) -> Result<(), St
     ensures same_size { F.size flash.new ≡ F.size flash.old }
     ensures laid_out { IsLaidOut (F.size flash.old) layout.new }
     ensures same_pages { layout.new.pages ≡ layout.old.pages }
+    ensures healthy { F.is_healthy flash.old → F.is_healthy flash.new × IfErr result IsRefused }
+    ensures slots { Same (F.slots flash.old) (F.slots flash.new) }
+    ensures opened { IsSameOpen (F.marks flash.old) (F.marks flash.new) }
+    ensures same_places { (p : ℕ) → (held_at layout.new.held p).page ≡ (held_at layout.old.held p).page }
+    ensures complete { F.is_healthy flash.old → ((p : ℕ) → p < layout.old.pages → HasRoom (F.size flash.old).triples (held_at layout.old.held p)) → IsOk result × ((p : ℕ) → p < layout.old.pages → (held_at layout.new.held p).number + 1 < 2 ^ 21) }
 {
     let pages = layout.pages;
     for behind in 0..pages {
@@ -71,6 +84,9 @@ fn settle_opened<F: MarkedFlash>(flash: &mut F, layout: &mut Layout) -> Result<(
     ensures same_size { F.size flash.new ≡ F.size flash.old }
     ensures laid_out { IsLaidOut (F.size flash.old) layout.new }
     ensures same_pages { layout.new.pages ≡ layout.old.pages }
+    ensures healthy { F.is_healthy flash.old → F.is_healthy flash.new × IfErr result IsRefused }
+    ensures settled { IfOk result (λ _. (p : ℕ) → p < layout.old.pages → IsOpenTold (F.marks flash.old) (F.slots flash.old) (held_at layout.old.held p).page → IsSettledPage (F.slots flash.old) (held_at layout.old.held p).page (F.slots flash.new) layout.new p) }
+    ensures complete { F.is_healthy flash.old → ((p : ℕ) → p < layout.old.pages → (held_at layout.old.held p).number + 1 < 2 ^ 21) → IsOk result }
 {
     let pages = layout.pages;
     for page in 0..pages {
@@ -89,6 +105,12 @@ fn bump_where_begun<F: MarkedFlash>(
     ensures same_size { F.size flash.new ≡ F.size flash.old }
     ensures laid_out { IsLaidOut (F.size flash.old) layout.new }
     ensures same_pages { layout.new.pages ≡ layout.old.pages }
+    ensures healthy { F.is_healthy flash.old → F.is_healthy flash.new × IfErr result IsRefused }
+    ensures slots { Same (F.slots flash.old) (F.slots flash.new) }
+    ensures opened { IsSameOpen (F.marks flash.old) (F.marks flash.new) }
+    ensures same_places { (p : ℕ) → (held_at layout.new.held p).page ≡ (held_at layout.old.held p).page }
+    ensures complete { F.is_healthy flash.old → HasRoom (F.size flash.old).triples (held_at layout.old.held page) → IsOk result }
+    ensures numbers { (p : ℕ) → IsRaised (held_at layout.old.held p) (held_at layout.new.held p) (p ≡ page) }
 {
     let held = layout.held[page];
     let at = held.page as usize;
@@ -113,20 +135,28 @@ fn settle_where_opened<F: MarkedFlash>(
     ensures same_size { F.size flash.new ≡ F.size flash.old }
     ensures laid_out { IsLaidOut (F.size flash.old) layout.new }
     ensures same_pages { layout.new.pages ≡ layout.old.pages }
+    ensures healthy { F.is_healthy flash.old → F.is_healthy flash.new × IfErr result IsRefused }
+    ensures settled { IsOpenTold (F.marks flash.old) (F.slots flash.old) (held_at layout.old.held page).page → IfOk result (λ _. IsSettledPage (F.slots flash.old) (held_at layout.old.held page).page (F.slots flash.new) layout.new page) }
+    ensures others { IfOk result (λ _. (p : ℕ) → p < layout.old.pages → (p ≡ page → ⊥) → IsUntouched (F.marks flash.old) (F.slots flash.old) layout.old (F.marks flash.new) (F.slots flash.new) layout.new p) }
+    ensures complete { F.is_healthy flash.old → (held_at layout.old.held page).number + 1 < 2 ^ 21 → IsOk result }
+    ensures numbers { (p : ℕ) → (p ≡ page → ⊥) → (held_at layout.new.held p).number ≡ (held_at layout.old.held p).number }
 {
     let held = layout.held[page];
-    let is_opened = flash.read_mark(held.page as usize, OPEN) != BLANK;
-    if is_opened || held.index as usize >= flash.triples() / 2 {
-        move_page(flash, layout, page, None)
-    } else {
-        Ok(())
+    let opened = flash.read_mark(held.page as usize, OPEN);
+    if opened == BLANK && (held.index as usize) < flash.triples() / 2 {
+        return Ok(());
     }
+    move_page(flash, layout, page, None)?;
+    Ok(())
 }
 
 /// Reads each claim once, and finds the greatest one of each page.
 fn find<F: MarkedFlash>(flash: &F, pages: usize) -> Result<Layout, Stop>
     requires { IsServed (F.size flash.now) pages }
     ensures laid_out { IfOk result (λ layout. IsLaidOut (F.size flash.now) layout) }
+    ensures healthy { F.is_healthy flash.now → IfErr result IsRefused }
+    ensures found { (before : Layout) → IsClaimed (F.size flash.now) (F.marks flash.now) before → before.pages ≡ pages → IfOk result (λ layout. IsFound before layout) }
+    ensures complete { F.is_healthy flash.now → (before : Layout) → IsClaimed (F.size flash.now) (F.marks flash.now) before → before.pages ≡ pages → IsOurs (F.size flash.now) (F.marks flash.now) pages → IsOk result }
 {
     let mut layout = Layout {
         pages,
@@ -149,6 +179,9 @@ fn find_claims<F: MarkedFlash>(flash: &F, layout: &mut Layout) -> Result<(), Sto
     requires { IsPlaced (F.size flash.now) layout.old }
     ensures placed { IsPlaced (F.size flash.now) layout.new }
     ensures same_pages { layout.new.pages ≡ layout.old.pages }
+    ensures healthy { F.is_healthy flash.now → IfErr result IsRefused }
+    ensures found { (before : Layout) → IsClaimed (F.size flash.now) (F.marks flash.now) before → IsFoundTo before layout.old 0 0 → IfOk result (λ _. IsFoundTo before layout.new (layout.old.pages + 1) 0) }
+    ensures ours { IsOurs (F.size flash.now) (F.marks flash.now) layout.old.pages → IsOk result }
 {
     let pages = layout.pages;
     for at in 0..pages + 1 {
@@ -162,6 +195,9 @@ fn find_on<F: MarkedFlash>(flash: &F, layout: &mut Layout, at: usize) -> Result<
     requires in_pages { at ≤ layout.old.pages }
     ensures placed { IsPlaced (F.size flash.now) layout.new }
     ensures same_pages { layout.new.pages ≡ layout.old.pages }
+    ensures healthy { F.is_healthy flash.now → IfErr result IsRefused }
+    ensures found { (before : Layout) → IsClaimed (F.size flash.now) (F.marks flash.now) before → IsFoundTo before layout.old at 0 → IfOk result (λ _. IsFoundTo before layout.new at (F.size flash.now).triples) }
+    ensures ours { IsOurs (F.size flash.now) (F.marks flash.now) layout.old.pages → IsOk result }
 {
     for index in 0..flash.triples() {
         let read = flash.read_mark(at, claim(index));
@@ -178,42 +214,66 @@ fn take_claim(
     read: [u8; SLOT_BYTES],
 ) -> Result<(), Stop>
     requires eight { length layout.old.held ≡ 8 }
+    requires least { 2 ≤ layout.old.pages }
     requires most { layout.old.pages ≤ 8 }
     requires in_pages { at ≤ layout.old.pages }
     requires in_page { index < 80 }
     ensures placed { (size : Size) → IsPlaced size layout.old → index < size.triples → IsPlaced size layout.new }
     ensures same_pages { layout.new.pages ≡ layout.old.pages }
+    ensures refused { IfErr result IsRefused }
+    ensures taken { IfOk result (λ _. (p : ℕ) → p < layout.old.pages → IsTaken (held_at layout.old.held p) (held_at layout.new.held p) layout.old.pages at index p read) }
+    ensures greatest { IfOk result (λ _. (p m : ℕ) → p < layout.old.pages → m < 2 ^ 21 → IsClaim layout.old.pages at p m read → m ≤ (held_at layout.new.held p).number) }
+    ensures ours { ((pages at' page number : ℕ) → IsClaim pages at' page number read → (pages ≡ layout.old.pages) × (at' ≡ at)) → IsOk result }
 {
-    if let Some(word) = read_word(read) {
-        if word.place != layout.place(at) {
-            return Err(Stop::Named(MountError::OtherGeometry));
-        }
-        let page = word.page;
-        if page < layout.pages && layout.held[page].number < word.number {
-            layout.held[page] = Held {
-                page: at as u8,
-                index: index as u8,
-                number: word.number,
-                is_opened: false,
-            };
+    match read_word(read) {
+        None => Ok(()),
+        Some(word) => {
+            if word.place != layout.place(at) {
+                return Err(Stop::Named(MountError::OtherGeometry));
+            }
+            keep_greater(layout, index, word);
+            Ok(())
         }
     }
-    Ok(())
+}
+
+/// Keeps a claim where it is greater than that before.
+fn keep_greater(layout: &mut Layout, index: usize, word: Word)
+    requires eight { length layout.old.held ≡ 8 }
+    requires most { layout.old.pages ≤ 8 }
+    requires in_pages { word.place.at ≤ layout.old.pages }
+    requires in_page { index < 80 }
+    requires number { word.number < 2 ^ 21 }
+    ensures placed { (size : Size) → IsPlaced size layout.old → index < size.triples → IsPlaced size layout.new }
+    ensures same_pages { layout.new.pages ≡ layout.old.pages }
+    ensures taken { (p : ℕ) → p < layout.old.pages → IsKeptOr (held_at layout.old.held p) (held_at layout.new.held p) word.place.at index (p ≡ word.page) word.number }
+    ensures greatest { word.page < layout.old.pages → word.number ≤ (held_at layout.new.held word.page).number }
+{
+    let page = word.page;
+    if page >= layout.pages || layout.held[page].number >= word.number {
+        return;
+    }
+    layout.held[page] = Held {
+        page: word.place.at as u8,
+        index: index as u8,
+        number: word.number,
+        is_opened: false,
+    };
 }
 
 /// The page of the flash that holds none.
 fn spare_of(layout: &Layout) -> usize
     requires eight { length layout.now.held ≡ 8 }
     requires most { layout.now.pages ≤ 8 }
-    ensures { result ≤ layout.now.pages }
+    ensures in_pages { result ≤ layout.now.pages }
+    ensures free { (q : ℕ) → q ≤ layout.now.pages → IsUnheld layout.now q → IsUnheld layout.now result }
 {
-    let mut spare = layout.pages;
     for page in 0..layout.pages {
         if !is_held(layout, page) {
-            spare = page;
+            return page;
         }
     }
-    spare
+    layout.pages
 }
 
 /// Whether a page of the flash holds one of the log.
@@ -238,6 +298,7 @@ fn is_whole(layout: &Layout) -> bool
     ensures numbered { IsTrue result → (p : ℕ) → p < layout.now.pages → 1 ≤ (held_at layout.now.held p).number }
     ensures apart { IsTrue result → (p q : ℕ) → p < layout.now.pages → q < layout.now.pages → (held_at layout.now.held p).page ≡ (held_at layout.now.held q).page → p ≡ q }
     ensures free { IsTrue result → (p : ℕ) → p < layout.now.pages → (held_at layout.now.held p).page ≡ layout.now.spare → ⊥ }
+    ensures whole { ((p : ℕ) → p < layout.now.pages → 1 ≤ (held_at layout.now.held p).number) → ((p q : ℕ) → p < layout.now.pages → q < layout.now.pages → (held_at layout.now.held p).page ≡ (held_at layout.now.held q).page → p ≡ q) → IsUnheld layout.now layout.now.spare → IsTrue result }
 {
     for page in 0..layout.pages {
         if layout.held[page].number == 0 || is_doubled(layout, page) {

@@ -1,6 +1,7 @@
 //! The adapter: a flash that reads the same each time.
 
-ghost use Rattle.std.specs.Prelude.{◌≡◌, true, ◌+◌, ◌<◌, ◌≤◌, ◌^◌, ℕ, ◌⊎◌, IfOk, IsTrue, MatchResult, slice_index, bit_and};
+ghost use Rattle.std.specs.Prelude.{◌≡◌, true, ◌+◌, ◌<◌, ◌≤◌, ◌^◌, ℕ, ◌⊎◌, IfOk, IfErr, IsOk, IsTrue, false, MatchResult, Ok, Err, slice_index, bit_and};
+ghost use Rattle.steady_flash.specs.Healthy.{IsRefusal};
 ghost use Rattle.shapes.specs.Shapes.{Bytes};
 ghost use Rattle.flash_model.specs.Image.{slot_at};
 ghost use Rattle.flash_model.specs.Operations.{Programs, MayProgram, Erases, MayErase};
@@ -8,7 +9,8 @@ ghost use Rattle.steady_flash.specs.Cells.{IsEight, blank};
 ghost use Rattle.steady_flash.specs.Marked.{Same};
 ghost use Rattle.steady_flash.specs.Layout.{held_at, IsLaidOut};
 ghost use Rattle.steady_flash.specs.Moves.{IsTorn};
-ghost use Rattle.steady_flash.specs.Shown.{shown, image_of, IsSettled, IsSettledBut, IsKept, IsChanged, IsTornInto};
+ghost use Rattle.steady_flash.specs.Shown.{shown, image_of, IsSettled, IsSettledBut, IsKept, IsChanged, IsTornInto, IsReadImage};
+ghost use Rattle.steady_flash.specs.Claims.{IsClaimed, IsOpenTold, IsOurs, HasRoom};
 
 use crate::layout::Layout;
 use crate::making::{format, take_over};
@@ -27,9 +29,13 @@ pub const NO_SLOT: [u8; SLOT_BYTES] = [255, 255, 255, 127, 255, 255, 255, 255];
 /// erase may program to 0 first.
 ///
 /// A start finds each page as it was before the operation that a power loss came into, behind it, or torn as `NorFlash` says; from
-/// then on it reads the same each time. A start that is cut is made again. It is proved that no call panics, that each ends, and
-/// what a session reads and writes where no slot has a cell in doubt (clauses of the calls). That a start leaves none, and all over
-/// power losses, is **tested, not proved**, under these premises:
+/// then on it reads the same each time. A start that is cut is made again.
+///
+/// Proved (clauses of the calls): no call panics, and each ends. Where no slot has a cell in doubt, a session reads and writes what
+/// `NorFlash` says. A start whose operations are whole leaves no such cell, if for each page the greatest claim that was begun is firm.
+/// On a healthy flash a start, a program and an erase succeed, until marks or numbers end.
+///
+/// What power losses leave of marks, and a cut start, is **tested, not proved**, under these premises:
 ///
 /// - The flash does what [`MarkedFlash`] asks, and nothing else writes there, a plain log neither.
 /// - The power is not lost inside as many starts in a row as half the triples of a page: at least 4, mostly 12. A start that ends
@@ -93,7 +99,12 @@ impl<F: MarkedFlash + Drop> SteadyFlash<F> {
     /// # Errors
     ///
     /// `Unmounted` with the flash and the reason ([`MountError`]).
-    pub fn mount(flash: F) -> Result<SteadyFlash<F>, Unmounted<F>> {
+    pub fn mount(flash: F) -> Result<SteadyFlash<F>, Unmounted<F>>
+        ensures complete { F.is_healthy flash → (before : Layout) → IsClaimed (F.size flash) (F.marks flash) before → IsOurs (F.size flash) (F.marks flash) before.pages → ((p : ℕ) → p < before.pages → HasRoom (F.size flash).triples (held_at before.held p)) → IsOk result }
+        ensures settled { F.is_healthy flash → (before : Layout) → IsClaimed (F.size flash) (F.marks flash) before → ((p : ℕ) → p < before.pages → IsOpenTold (F.marks flash) (F.slots flash) (held_at before.held p).page)
+            → IfOk result (λ steady. IsSettled (F.slots steady.flash) steady.layout × IsReadImage (F.slots flash) before (image_of (F.slots steady.flash) steady.layout)) }
+        ensures healthy { F.is_healthy flash → MatchResult result (λ steady. F.is_healthy steady.flash × (steady.is_lost ≡ false)) (λ unmounted. F.is_healthy unmounted.flash × IsRefusal unmounted.why) }
+    {
         let mut flash = flash;
         let started = start(&mut flash);
         SteadyFlash::of(flash, started)
@@ -109,7 +120,9 @@ impl<F: MarkedFlash + Drop> SteadyFlash<F> {
     ///
     /// `Unmounted` with the flash and the reason. A [`Damaged`](MountError::Damaged) flash, and one of
     /// [another geometry](MountError::OtherGeometry), is refused as it is.
-    pub fn take_over(flash: F) -> Result<SteadyFlash<F>, Unmounted<F>> {
+    pub fn take_over(flash: F) -> Result<SteadyFlash<F>, Unmounted<F>>
+        ensures healthy { F.is_healthy flash → MatchResult result (λ steady. F.is_healthy steady.flash × (steady.is_lost ≡ false)) (λ unmounted. F.is_healthy unmounted.flash × IsRefusal unmounted.why) }
+    {
         let mut flash = flash;
         let started = take_over(&mut flash);
         SteadyFlash::of(flash, started)
@@ -124,7 +137,9 @@ impl<F: MarkedFlash + Drop> SteadyFlash<F> {
     /// # Errors
     ///
     /// `Unmounted` with the flash and the reason: `PageCount`, `Triples`, `Unreadable`, `Worn` or `Fault`.
-    pub fn format(flash: F) -> Result<SteadyFlash<F>, Unmounted<F>> {
+    pub fn format(flash: F) -> Result<SteadyFlash<F>, Unmounted<F>>
+        ensures healthy { F.is_healthy flash → MatchResult result (λ steady. F.is_healthy steady.flash × (steady.is_lost ≡ false)) (λ unmounted. F.is_healthy unmounted.flash × IsRefusal unmounted.why) }
+    {
         let mut flash = flash;
         let started = format(&mut flash);
         SteadyFlash::of(flash, started)
@@ -132,6 +147,7 @@ impl<F: MarkedFlash + Drop> SteadyFlash<F> {
 
     fn of(flash: F, started: Result<Layout, MountError>) -> Result<SteadyFlash<F>, Unmounted<F>>
         requires { IfOk started (λ layout. IsLaidOut (F.size flash) layout) }
+        ensures same { MatchResult result (λ steady. (steady.flash ≡ flash) × (steady.is_lost ≡ false) × (started ≡ Ok steady.layout)) (λ unmounted. (unmounted.flash ≡ flash) × (started ≡ Err unmounted.why)) }
     {
         match started {
             Ok(layout) => Ok(SteadyFlash {
@@ -191,6 +207,8 @@ impl<F: MarkedFlash + Drop> SteadyFlash<F> {
             (λ _. IsSettled (F.slots self.new.flash) self.new.layout × Programs (image_of (F.slots self.old.flash) self.old.layout) page slot bytes (image_of (F.slots self.new.flash) self.new.layout))
             (λ _. (self.new.is_lost ≡ true) ⊎ (IsSettled (F.slots self.new.flash) self.new.layout × MayProgram (image_of (F.slots self.old.flash) self.old.layout) page slot bytes (image_of (F.slots self.new.flash) self.new.layout))) }
         ensures same_pages { self.new.layout.pages ≡ self.old.layout.pages }
+        ensures healthy { F.is_healthy self.old.flash → self.old.is_lost ≡ false → page < self.old.layout.pages → slot < PAGE_SLOTS → (held_at self.old.layout.held page).number ≤ LAST_WRITTEN → IsOk result × F.is_healthy self.new.flash × (self.new.is_lost ≡ false) }
+        ensures claimed { IsClaimed (F.size self.old.flash) (F.marks self.old.flash) self.old.layout → IfOk result (λ _. IsClaimed (F.size self.new.flash) (F.marks self.new.flash) self.new.layout) }
     {
         if !self.takes(page, slot) {
             return Err(FlashFault);
@@ -216,6 +234,8 @@ impl<F: MarkedFlash + Drop> SteadyFlash<F> {
             (λ _. IsSettled (F.slots self.new.flash) self.new.layout × Erases (image_of (F.slots self.old.flash) self.old.layout) page (image_of (F.slots self.new.flash) self.new.layout))
             (λ _. (self.new.is_lost ≡ true) ⊎ (IsSettled (F.slots self.new.flash) self.new.layout × MayErase (image_of (F.slots self.old.flash) self.old.layout) page (image_of (F.slots self.new.flash) self.new.layout))) }
         ensures same_pages { self.new.layout.pages ≡ self.old.layout.pages }
+        ensures healthy { F.is_healthy self.old.flash → self.old.is_lost ≡ false → page < self.old.layout.pages → (held_at self.old.layout.held page).number ≤ LAST_WRITTEN → IsOk result × F.is_healthy self.new.flash × (self.new.is_lost ≡ false) }
+        ensures claimed { IsClaimed (F.size self.old.flash) (F.marks self.old.flash) self.old.layout → IfOk result (λ _. IsClaimed (F.size self.new.flash) (F.marks self.new.flash) self.new.layout) }
     {
         if !self.takes(page, 0) {
             return Err(FlashFault);
@@ -250,6 +270,8 @@ impl<F: MarkedFlash + Drop> SteadyFlash<F> {
             (λ _. IsChanged (F.slots self.old.flash) self.old.layout page slot bytes (F.slots self.new.flash) self.new.layout)
             (λ _. (self.new.is_lost ≡ true) ⊎ IsKept (F.slots self.old.flash) self.old.layout (F.slots self.new.flash) self.new.layout) }
         ensures same_pages { self.new.layout.pages ≡ self.old.layout.pages }
+        ensures healthy { F.is_healthy self.old.flash → self.old.is_lost ≡ false → (held_at self.old.layout.held page).number ≤ LAST_WRITTEN → IsOk result × F.is_healthy self.new.flash × (self.new.is_lost ≡ false) }
+        ensures claimed { IsClaimed (F.size self.old.flash) (F.marks self.old.flash) self.old.layout → IfOk result (λ _. IsClaimed (F.size self.new.flash) (F.marks self.new.flash) self.new.layout) }
     {
         let change = Changed { slot, bytes };
         match move_page(&mut self.flash, &mut self.layout, page, Some(change)) {
@@ -267,6 +289,8 @@ impl<F: MarkedFlash + Drop> SteadyFlash<F> {
             (λ _. IsChanged (F.slots self.old.flash) self.old.layout page slot bytes (F.slots self.new.flash) self.new.layout)
             (λ _. (self.new.is_lost ≡ true) ⊎ IsTornInto (F.slots self.old.flash) self.old.layout page slot bytes (F.slots self.new.flash) self.new.layout) }
         ensures same_pages { self.new.layout.pages ≡ self.old.layout.pages }
+        ensures healthy { F.is_healthy self.old.flash → self.old.is_lost ≡ false → IsOk result × F.is_healthy self.new.flash × (self.new.is_lost ≡ false) }
+        ensures claimed { IsClaimed (F.size self.old.flash) (F.marks self.old.flash) self.old.layout → IfOk result (λ _. IsClaimed (F.size self.new.flash) (F.marks self.new.flash) self.new.layout) }
     {
         if self.open(page).is_err() {
             return Err(FlashFault);
@@ -284,6 +308,8 @@ impl<F: MarkedFlash + Drop> SteadyFlash<F> {
         ensures slots { Same (F.slots self.old.flash) (F.slots self.new.flash) }
         ensures same_pages { self.new.layout.pages ≡ self.old.layout.pages }
         ensures same_places { (p : ℕ) → (held_at self.new.layout.held p).page ≡ (held_at self.old.layout.held p).page }
+        ensures healthy { F.is_healthy self.old.flash → self.old.is_lost ≡ false → IsOk result × F.is_healthy self.new.flash × (self.new.is_lost ≡ false) }
+        ensures claimed { IsClaimed (F.size self.old.flash) (F.marks self.old.flash) self.old.layout → IsClaimed (F.size self.new.flash) (F.marks self.new.flash) self.new.layout }
     {
         if self.layout.held[page].is_opened {
             return Ok(());
@@ -331,7 +357,8 @@ impl<F: MarkedFlash + Drop> SteadyFlash<F> {
 
     /// Whether an operation on this page may be made.
     fn takes(&self, page: usize, slot: usize) -> bool
-        ensures { IsTrue result → (page < self.now.layout.pages) × (slot < PAGE_SLOTS) }
+        ensures taken { IsTrue result → (page < self.now.layout.pages) × (slot < PAGE_SLOTS) }
+        ensures takes { page < self.now.layout.pages → slot < PAGE_SLOTS → self.now.is_lost ≡ false → (held_at self.now.layout.held page).number ≤ LAST_WRITTEN → IsTrue result }
     {
         page < self.layout.pages
             && slot < PAGE_SLOTS

@@ -57,7 +57,7 @@ pub struct Word {
 pub fn claim_bytes(place: Place, page: usize, number: u32) -> [u8; SLOT_BYTES] {
     let pages = (place.pages - 1) as u32;
     let at = place.at as u32;
-    mark_bytes((page as u32) << PAGE_AT | pages << PAGES_AT | at << PLACE_AT | number)
+    mark_bytes(((page as u32) << PAGE_AT) + (pages << PAGES_AT) + (at << PLACE_AT) + number)
 }
 
 /// The word of a mark, of whatever geometry, if these bytes are one.

@@ -37,7 +37,7 @@ pub fn program_mark<F: MarkedFlash>(
     mark: usize,
     bytes: [u8; SLOT_BYTES],
 ) -> Result<(), Stop> {
-    for _ in 0..TRIES {
+    for _tried in 0..TRIES {
         match flash.program_mark(at, mark, bytes) {
             Ok(()) => return Ok(()),
             Err(_) => {}
@@ -53,7 +53,7 @@ pub fn program_slot<F: MarkedFlash>(
     slot: usize,
     bytes: [u8; SLOT_BYTES],
 ) -> Result<(), Stop> {
-    for _ in 0..TRIES {
+    for _tried in 0..TRIES {
         match flash.program_slot(at, slot, bytes) {
             Ok(()) => return Ok(()),
             Err(_) => {}
@@ -64,7 +64,7 @@ pub fn program_slot<F: MarkedFlash>(
 
 /// Erases the marks of a page until they are whole.
 pub fn erase_marks<F: MarkedFlash>(flash: &mut F, at: usize) -> Result<(), Stop> {
-    for _ in 0..TRIES {
+    for _tried in 0..TRIES {
         match flash.erase_marks(at) {
             Ok(()) => return Ok(()),
             Err(_) => {}
@@ -75,7 +75,7 @@ pub fn erase_marks<F: MarkedFlash>(flash: &mut F, at: usize) -> Result<(), Stop>
 
 /// Erases the slots of a page until they are whole.
 pub fn erase_slots<F: MarkedFlash>(flash: &mut F, at: usize) -> Result<(), Stop> {
-    for _ in 0..TRIES {
+    for _tried in 0..TRIES {
         match flash.erase_slots(at) {
             Ok(()) => return Ok(()),
             Err(_) => {}

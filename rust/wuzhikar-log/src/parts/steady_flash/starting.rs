@@ -3,7 +3,7 @@
 
 use crate::parts::steady_flash::layout::{Held, Layout, MOST_PAGES, NOWHERE};
 use crate::parts::steady_flash::making::why_not_found;
-use crate::parts::steady_flash::marks::{BLANK, OPEN, about, claim, done, done_bytes, read_word};
+use crate::parts::steady_flash::marks::{BLANK, OPEN, Word, about, claim, done, done_bytes, read_word};
 use crate::parts::steady_flash::moving::{Stop, TRIES, bump, move_page};
 use crate::parts::steady_flash::{MarkedFlash, MountError};
 use crate::parts::flash_model::SLOT_BYTES;
@@ -24,7 +24,7 @@ pub fn start<F: MarkedFlash>(flash: &mut F) -> Result<Layout, MountError> {
     if triples < LEAST_TRIPLES || triples > MOST_TRIPLES {
         return Err(MountError::Triples);
     }
-    for _ in 0..TRIES {
+    for _tried in 0..TRIES {
         match settle_all(flash, count - 1) {
             Ok(layout) => return Ok(layout),
             Err(Stop::Named(why)) => return Err(why),
@@ -82,12 +82,12 @@ fn settle_where_opened<F: MarkedFlash>(
     page: usize,
 ) -> Result<(), Stop> {
     let held = layout.held[page];
-    let is_opened = flash.read_mark(held.page as usize, OPEN) != BLANK;
-    if is_opened || held.index as usize >= flash.triples() / 2 {
-        move_page(flash, layout, page, None)
-    } else {
-        Ok(())
+    let opened = flash.read_mark(held.page as usize, OPEN);
+    if opened == BLANK && (held.index as usize) < flash.triples() / 2 {
+        return Ok(());
     }
+    move_page(flash, layout, page, None)?;
+    Ok(())
 }
 
 /// Reads each claim once, and finds the greatest one of each page.
@@ -132,32 +132,40 @@ fn take_claim(
     index: usize,
     read: [u8; SLOT_BYTES],
 ) -> Result<(), Stop> {
-    if let Some(word) = read_word(read) {
-        if word.place != layout.place(at) {
-            return Err(Stop::Named(MountError::OtherGeometry));
-        }
-        let page = word.page;
-        if page < layout.pages && layout.held[page].number < word.number {
-            layout.held[page] = Held {
-                page: at as u8,
-                index: index as u8,
-                number: word.number,
-                is_opened: false,
-            };
+    match read_word(read) {
+        None => Ok(()),
+        Some(word) => {
+            if word.place != layout.place(at) {
+                return Err(Stop::Named(MountError::OtherGeometry));
+            }
+            keep_greater(layout, index, word);
+            Ok(())
         }
     }
-    Ok(())
+}
+
+/// Keeps a claim where it is greater than that before.
+fn keep_greater(layout: &mut Layout, index: usize, word: Word) {
+    let page = word.page;
+    if page >= layout.pages || layout.held[page].number >= word.number {
+        return;
+    }
+    layout.held[page] = Held {
+        page: word.place.at as u8,
+        index: index as u8,
+        number: word.number,
+        is_opened: false,
+    };
 }
 
 /// The page of the flash that holds none.
 fn spare_of(layout: &Layout) -> usize {
-    let mut spare = layout.pages;
     for page in 0..layout.pages {
         if !is_held(layout, page) {
-            spare = page;
+            return page;
         }
     }
-    spare
+    layout.pages
 }
 
 /// Whether a page of the flash holds one of the log.

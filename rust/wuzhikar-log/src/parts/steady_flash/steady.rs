@@ -18,9 +18,13 @@ pub const NO_SLOT: [u8; SLOT_BYTES] = [255, 255, 255, 127, 255, 255, 255, 255];
 /// erase may program to 0 first.
 ///
 /// A start finds each page as it was before the operation that a power loss came into, behind it, or torn as `NorFlash` says; from
-/// then on it reads the same each time. A start that is cut is made again. It is proved that no call panics, that each ends, and
-/// what a session reads and writes where no slot has a cell in doubt (clauses of the calls). That a start leaves none, and all over
-/// power losses, is **tested, not proved**, under these premises:
+/// then on it reads the same each time. A start that is cut is made again.
+///
+/// Proved (clauses of the calls): no call panics, and each ends. Where no slot has a cell in doubt, a session reads and writes what
+/// `NorFlash` says. A start whose operations are whole leaves no such cell, if for each page the greatest claim that was begun is firm.
+/// On a healthy flash a start, a program and an erase succeed, until marks or numbers end.
+///
+/// What power losses leave of marks, and a cut start, is **tested, not proved**, under these premises:
 ///
 /// - The flash does what [`MarkedFlash`] asks, and nothing else writes there, a plain log neither.
 /// - The power is not lost inside as many starts in a row as half the triples of a page: at least 4, mostly 12. A start that ends

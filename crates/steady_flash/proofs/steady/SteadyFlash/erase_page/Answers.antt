@@ -1,4 +1,5 @@
-use Rattle.std.proofs.Common.{inr}
+use Rattle.std.proofs.Common.{inr, arith}
+use Rattle.std.proofs.lemmas.Bool.{false≢true}
 use Rattle.steady_flash.proofs.Session.{blanked_by_move, kept_by_spare, erases_of, keeps_erase}
 use Rattle.steady_flash.proofs.steady.SteadyFlash.erase_page.Goals as goal
 
@@ -12,4 +13,9 @@ returns-in-Err g c = record {
   outcome = λ settled b. let k = kept_by_spare _ c.args.self.now.layout _ _ c.args.self.now.laid_out settled c.erase_page.ensures.others in
       inr (rw c.in-Err.ensures.moved (k.settled, keeps_erase c.args.self.now.layout _ _ _ c.args.page k));
   same_pages = c.erase_page.ensures.same_pages;
+  healthy = λ h lost b n. absurd (false≢true ((c.in-Err.ensures.healthy h).2 (omega (arith, n))));
+  claimed = λ k. tt;
 }
+
+pub returns-in-Ok-clause-claimed : goal.returns-in-Ok-clause-claimed
+returns-in-Ok-clause-claimed g c = λ k. rw c.erase_page.ensures.same_size (c.in-Ok.ensures.claimed k)

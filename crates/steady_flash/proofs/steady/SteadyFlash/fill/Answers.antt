@@ -1,6 +1,7 @@
 use Rattle.std.proofs.Common.{rules, ◌<◌, inl, inr, ◌∙◌}
 use Rattle.steady_flash.specs.Cells.{IsEight}
 use Rattle.steady_flash.specs.Shown.{IsKept}
+use Rattle.steady_flash.proofs.Claiming.{claimed_same}
 use Rattle.steady_flash.proofs.Session.{kept_by_same, kept_torn, settled_but, others_in_place, torn_into}
 use Rattle.steady_flash.proofs.steady.SteadyFlash.fill.Goals as goal
 
@@ -20,3 +21,7 @@ returns-in-Err-clause-outcome g c settled e some =
       | inl lost ↦ inl lost
       | inr into ↦ inr (torn_into c.args.self.now.layout _ _ _ _ c.open.new.self.layout c.args.page c.args.slot c.args.bytes (λ p s h m apart. others_in_place _ c.open.new.self.layout _ _ c.args.page c.args.slot p s c.open.new.self.laid_out b (rw c.open.ensures.same_pages h) c.program_slot.ensures.others apart ∙ k.same p s h m) c.open.ensures.same_pages into)
     ]
+
+pub returns-in-Ok-clause-claimed : goal.returns-in-Ok-clause-claimed
+returns-in-Ok-clause-claimed g c = λ k.
+    rw c.program_slot.ensures.same_size (claimed_same _ (g.F.MarkedFlash.marks c.open.new.self.flash) (g.F.MarkedFlash.marks c.program_slot.new.flash) c.open.new.self.layout c.program_slot.ensures.marks (c.open.ensures.claimed k))

@@ -1,0 +1,39 @@
+//! Theorems of the definitions: what a start reads behind an operation that was torn.
+//!
+//! No code runs here. Each theorem is a clause about the definitions that the contracts cite.
+
+ghost use Rattle.std.specs.Prelude.{◌≡◌, ◌<◌, ℕ};
+ghost use Rattle.shapes.specs.Shapes.{Bytes};
+ghost use Rattle.flash_model.specs.Operations.{MayProgram};
+ghost use Rattle.flash_model.specs.declared.TheConstants.{PAGE_SLOTS};
+ghost use Rattle.steady_flash.specs.Cells.{IsEight, Written, IsReading, MayBeProgrammed, blank};
+ghost use Rattle.steady_flash.specs.Marked.{Size, OnePlace};
+ghost use Rattle.steady_flash.specs.Layout.{held_at, IsLaidOut};
+ghost use Rattle.steady_flash.specs.Shown.{shown, image_of, IsSettled, IsReadImage};
+ghost use Rattle.steady_flash.specs.Claims.{IsOpenTold, IsClaimed};
+ghost use Rattle.steady_flash.specs.declared.layout.Layout.{Layout};
+
+/// What the cells read as behind a program of a blank slot that was torn, whatever its cells in doubt read as, is a torn program.
+pub fn a_torn_program_reads_as_torn()
+    ensures { (size : Size) (old new : ℕ → ℕ → Written) (layout : Layout) (page slot : ℕ) (bytes image : Bytes) → IsLaidOut size layout → IsSettled old layout → page < layout.pages → slot < PAGE_SLOTS → IsEight bytes → shown old layout page slot ≡ blank
+        → OnePlace old (held_at layout.held page).page slot new → MayBeProgrammed (old (held_at layout.held page).page slot) bytes (new (held_at layout.held page).page slot)
+        → IsReadImage new layout image → MayProgram (image_of old layout) page slot bytes image }
+{}
+
+/// Behind such a program each page says whether it may have a cell in doubt, if the mark of the page that was written to does not read
+/// as blank.
+pub fn a_torn_program_is_told()
+    ensures { (size : Size) (marks old new : ℕ → ℕ → Written) (layout : Layout) (page slot : ℕ) → IsLaidOut size layout → IsSettled old layout → page < layout.pages
+        → OnePlace old (held_at layout.held page).page slot new → (IsReading (marks (held_at layout.held page).page 0).cells blank → ⊥)
+        → (p : ℕ) → p < layout.pages → IsOpenTold marks new (held_at layout.held p).page }
+{}
+
+/// With no cell in doubt there is one image to read.
+pub fn a_settled_flash_reads_as_shown()
+    ensures { (slots : ℕ → ℕ → Written) (layout : Layout) (image : Bytes) → IsSettled slots layout → IsReadImage slots layout image → image ≡ image_of slots layout }
+{}
+
+/// There is a flash on which claims count, so that what is said of starts speaks of some.
+pub fn some_flash_is_claimed()
+    ensures { (layout : Layout) × (marks : ℕ → ℕ → Written) × IsClaimed (record { pages = 3; triples = 8 }) marks layout }
+{}
