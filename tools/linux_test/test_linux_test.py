@@ -1,61 +1,19 @@
-"""Tests of the parts of bin/linux-test that need no machine."""
+"""Tests of what bin/linux-test compares: its rules, and that a difference is told. They need no machine."""
 
-import gzip
 import os
 import re
 import subprocess
 import sys
-import tempfile
 import unittest
-import unittest.mock
 
 sys.path.insert(0, os.path.dirname(os.path.abspath(__file__)))
 
-import guest  # noqa: E402
 import lists  # noqa: E402
-import machines  # noqa: E402
 import parsed  # noqa: E402
 import parts  # noqa: E402
 import values  # noqa: E402
-from processes import Silent, running  # noqa: E402
 
 HERE = f"{parts.ROOT}/tests/real_host/linux"
-
-
-def unpack(archive):
-    """The entries of an archive of cpio: path, mode and content."""
-    data, at = gzip.decompress(archive), 0
-    while True:
-        numbers = [int(data[at + 6 + 8 * place:at + 14 + 8 * place], 16) for place in range(13)]
-        head = at + 110
-        name = data[head:head + numbers[11] - 1].decode()
-        body = (head + numbers[11] + 3) // 4 * 4
-        if name == "TRAILER!!!":
-            return
-        yield name, numbers[1], data[body:body + numbers[6]]
-        at = (body + numbers[6] + 3) // 4 * 4
-
-
-class Guest(unittest.TestCase):
-    """What the guest is made of."""
-
-    def test_an_archive_holds_files_and_their_folders(self):
-        entries = list(unpack(guest.archive({"a/b/c": b"12345", "d": b""})))
-        self.assertEqual(entries, [("a", 0o40755, b""), ("a/b", 0o40755, b""), ("a/b/c", 0o100755, b"12345"), ("d", 0o100755, b"")])
-
-    def test_a_kernel_that_is_not_packed_stays(self):
-        self.assertEqual(guest.unpacked(b"\x7fELF"), b"\x7fELF")
-
-    def test_the_first_page_is_full_and_the_second_blank(self):
-        image = guest.full_image()
-        slots = [image[at:at + 8] for at in range(0, 4096, 8)]
-        self.assertEqual((len(image), slots[0].hex(), slots[1].hex()), (8192, "00000020ffffffdf", "04000011fbffffee"))
-        self.assertTrue(all(int.from_bytes(slot[:4], "little") ^ int.from_bytes(slot[4:], "little") == 0xFFFFFFFF for slot in slots))
-        self.assertEqual((len(set(slots)), image[4096:]), (289, b"\xff" * 4096))
-
-    def test_the_boot_sector_fits(self):
-        self.assertLess(len(machines.SECTOR), 510)
-        self.assertEqual(machines.SECTOR.index(b"ready"), 0x31)
 
 
 class Values(unittest.TestCase):
@@ -193,72 +151,6 @@ class Lists(unittest.TestCase):
     def test_the_shell_of_the_guest_reads_its_files(self):
         for name in ("init", "commands"):
             self.assertEqual(subprocess.run(["sh", "-n", f"{HERE}/{name}"]).returncode, 0)
-
-
-class Parts(unittest.TestCase):
-    """What is skipped by name."""
-
-    def test_a_folder_without_a_linux(self):
-        with tempfile.TemporaryDirectory() as folder, unittest.mock.patch.dict(os.environ, LINUX=folder):
-            with self.assertRaisesRegex(parts.Missing, f"no boot/vmlinuz-\\* in {folder}"):
-                parts.linux()
-
-    def test_a_linux_without_its_modules(self):
-        with tempfile.TemporaryDirectory() as folder, unittest.mock.patch.dict(os.environ, LINUX=folder):
-            os.mkdir(f"{folder}/boot")
-            open(f"{folder}/boot/vmlinuz-6.1", "wb").close()
-            with self.assertRaisesRegex(parts.Missing, "no lib/modules/6.1"):
-                parts.linux()
-
-    def test_a_linux_without_a_module(self):
-        with tempfile.TemporaryDirectory() as folder:
-            os.makedirs(f"{folder}/boot")
-            os.makedirs(f"{folder}/lib/modules/6.1")
-            for name in ("boot/vmlinuz-6.1", "lib/modules/6.1/modules.dep"):
-                open(f"{folder}/{name}", "wb").close()
-            with unittest.mock.patch.dict(os.environ, LINUX=folder, PATH=f"{os.environ['PATH']}:/usr/sbin:/sbin"):
-                with self.assertRaisesRegex(guest.Lacking, f"no module dummy-hcd in {folder}/lib/modules/6.1"):
-                    machines.boot(folder, {}, b"", guest.OF_FUNCTION)
-
-    def test_a_program_that_is_not_there(self):
-        with unittest.mock.patch.dict(os.environ, PATH=""), self.assertRaisesRegex(parts.Missing, r"no rustc \(Debian: rustc\)"):
-            parts.need_programs()
-
-    def test_a_kernel_that_cannot_be_fetched(self):
-        with tempfile.TemporaryDirectory() as folder, unittest.mock.patch.dict(os.environ, CACHE=folder, PATH=""):
-            os.environ.pop("LINUX", None)
-            with self.assertRaisesRegex(parts.Missing, "no apt-cache"):
-                parts.linux()
-
-
-class Processes(unittest.TestCase):
-    """Waiting for what a program says."""
-
-    def test_a_text_is_waited_for(self):
-        with running(["sh", "-c", "echo one; read word; echo $word"]) as program:
-            program.until("one")
-            program.say("two\n")
-            self.assertEqual(program.until("three", "two"), "two")
-
-    def test_what_is_said_is_heard_as_it_comes(self):
-        heard = []
-        with running(["sh", "-c", "echo one; read word; echo two"]) as program:
-            program.until("one", hear=lambda: heard.append(program.text()))
-            self.assertEqual(heard, ["one\n"])
-            program.say("more\n")
-            program.until("two", hear=lambda: heard.append(program.text()))
-        self.assertEqual(heard, ["one\n", "one\ntwo\n"])
-
-    def test_a_program_that_goes_on_and_on(self):
-        with running(["sh", "-c", "while echo x; do sleep 0.05; done"], longest=0.3) as program, self.assertRaisesRegex(Silent, "sh did not say 'y'"):
-            program.until("y")
-
-    def test_a_program_that_ends_or_is_silent(self):
-        with running(["echo", "something"]) as program, self.assertRaisesRegex(Silent, "echo ended, and did not say 'x'") as met:
-            program.until("x")
-        self.assertEqual(met.exception.said, "something\n")
-        with running(["cat"], patience=0.1) as program, self.assertRaisesRegex(Silent, "cat did not say 'x'"):
-            program.until("x")
 
 
 if __name__ == "__main__":
