@@ -121,6 +121,7 @@ def rows(room):
         Row("reader", "a report of a touch screen with ten contacts, 42 values", counted("read", *ten_fingers()), None),
         Row("reader", "1,024 settings of a field with one range of usages", counted("write", many_places(RANGE)), None),
         Row("reader", "1,024 settings of a field whose usages are declared one by one", counted("write", many_places(singles(1024))), None),
+        Row("reader", "a reader of a descriptor of 1,103 bytes, beside its parse", counted("new", text), alone),
         Row("reader", "details of a descriptor of 1,103 bytes, beside its parse", counted("details", text) - alone, alone),
         Row("reader", "a boot report in hex by `kbsim read`, its line of text with it", counted_line(), None),
         Row("reader", "a boot report in hex by `kbsim read --json`, its object with it", counted_line("--json"), None),

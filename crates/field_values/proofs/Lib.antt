@@ -3,4 +3,4 @@ pub mod NullLemmas
 mod Fractions
 pub mod Reading
 mod Filling
-mod Listing
+pub mod Listing

@@ -1,5 +1,5 @@
 -- The first number with which a list of ranges has a usage.
-use Rattle.std.proofs.Common.{◌≡◌, ◌≢◌, ℕ, ◌+◌, ◌-◌, ◌<◌, ◌≤◌, List, length, take, get_or, arith, refl, sym, ◌∙◌, ap, inl, inr, Some, None}
+use Rattle.std.proofs.Common.{◌≡◌, ◌≢◌, ℕ, zero, suc, ◌+◌, ◌-◌, ◌<◌, ◌≤◌, List, length, take, get_or, arith, refl, sym, ◌∙◌, ap, inl, inr, Some, None}
 use Rattle.std.specs.Prelude.{◌⊎◌, Option, slice_get, slice_index}
 use Rattle.std.proofs.lemmas.Bool.{cases_lt}
 use Rattle.descriptor_parse.specs.Descriptor.{usage_list}
@@ -7,6 +7,7 @@ use Rattle.descriptor_parse.specs.Counts.{AreCounts}
 use Rattle.descriptor_parse.proofs.CountLemmas.{len_step, in_range, past_ranges}
 use Rattle.descriptor_parse.proofs.UsageLemmas.{no_usages}
 use Rattle.field_values.specs.Lists.{IsUnlisted, IsFirst}
+use Rattle.field_values.specs.representation.Ranges.{AreWithout}
 
 -- the first ranges do not have a usage
 abbrev pub IsPast : List (ℕ × ℕ) → ℕ → ℕ → Type 0
@@ -30,6 +31,12 @@ one_past ranges usage i l out past number below e =
             | inr over ↦ absurd (omega arith)
           ])
     ]
+
+pub past_upto : (ranges : List (ℕ × ℕ)) (usage from i : ℕ) → AreWithout ranges usage from → i ≤ from → i ≤ length ranges → IsPast ranges usage i
+past_upto ranges usage from zero w l m = none_past ranges usage
+past_upto ranges usage from (suc i) w l m =
+    let on : suc i ≡ i + 1 = omega arith in
+    rw on (one_past ranges usage i (omega arith) (w i (omega arith) (omega arith)) (past_upto ranges usage from i w (omega arith) (omega arith)))
 
 pub all_past : (ranges : List (ℕ × ℕ)) (usage i : ℕ) → length ranges ≤ i → IsPast ranges usage i → IsUnlisted (usage_list ranges) usage
 all_past ranges usage i l past number e = elim (cases_lt number (length (usage_list (take i ranges)))) [

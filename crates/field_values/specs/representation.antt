@@ -1,2 +1,3 @@
 -- Representation: the files of this folder.
 pub mod Limits
+pub mod Ranges

@@ -19,7 +19,7 @@ mod value;
 
 pub use bits::put_number;
 pub use fill::fill_places;
-pub use list::{is_no_control, is_unused, number_of_usage};
+pub use list::{is_no_control, is_unused, number_of_usage, number_of_usage_from};
 pub use null::{Asked, is_null, null_of, set_place};
 pub use physical::{Extents, NoPhysical, Physical, physical_value};
 pub use place::{PlaceError, is_held, is_within, put_value, write_place};

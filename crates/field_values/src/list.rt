@@ -5,6 +5,7 @@ ghost use Rattle.descriptor_parse.specs.Counts.{AreCounts};
 ghost use Rattle.descriptor_parse.specs.Descriptor.{usage_list};
 ghost use Rattle.host_extract.specs.representation.Fits.{FitsReading};
 ghost use Rattle.field_values.specs.Lists.{is_no_control, is_unused, IsUnlisted, IsFirst};
+ghost use Rattle.field_values.specs.representation.Ranges.{AreWithout};
 
 use crate::place::is_held;
 use crate::value::listed;
@@ -35,15 +36,24 @@ pub fn is_no_control(usage: Option<u32>) -> bool
 pub fn number_of_usage(declared: &FieldUsages<'_>, usage: u32) -> Option<u32>
     ensures { MatchOption result (IsUnlisted (usage_list declared.now.ranges.now) usage) (IsFirst (usage_list declared.now.ranges.now) usage) }
 {
-    number_in(declared.ranges, declared.counts, usage)
+    number_in(declared.ranges, declared.counts, 0, usage)
+}
+
+/// The same, where no range before this one has the usage.
+pub fn number_of_usage_from(declared: &FieldUsages<'_>, from: usize, usage: u32) -> Option<u32>
+    requires { AreWithout declared.now.ranges.now usage from }
+    ensures { MatchOption result (IsUnlisted (usage_list declared.now.ranges.now) usage) (IsFirst (usage_list declared.now.ranges.now) usage) }
+{
+    number_in(declared.ranges, declared.counts, from, usage)
 }
 
 /// The same by ranges, beside each how many usages those up to it have.
-fn number_in(ranges: &[(u32, u32)], counts: &[u32], usage: u32) -> Option<u32>
-    requires { AreCounts ranges.now counts.now }
+fn number_in(ranges: &[(u32, u32)], counts: &[u32], from: usize, usage: u32) -> Option<u32>
+    requires counts { AreCounts ranges.now counts.now }
+    requires without { AreWithout ranges.now usage from }
     ensures { MatchOption result (IsUnlisted (usage_list ranges.now) usage) (IsFirst (usage_list ranges.now) usage) }
 {
-    for place in 0..ranges.len() {
+    for place in from.min(ranges.len())..ranges.len() {
         if has(ranges[place], usage) {
             return Some(counts[place] - 1 - (ranges[place].1 - usage));
         }

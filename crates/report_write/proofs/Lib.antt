@@ -7,6 +7,7 @@ mod Firsts
 mod UnusedLemmas
 mod UnusedNone
 mod Walked
+mod Hinted
 mod ArraysCleared
 mod ArraysRefused
 mod FilledHeld

@@ -1,6 +1,6 @@
 -- Bits that settings leave, and what a place that is set holds after them.
 use Rattle.std.proofs.Common.{◌≡◌, ℕ, zero, suc, ◌+◌, ◌*◌, ◌<◌, Bool, true, false, List, ◌∷◌, length, drop, arith, refl, sym, ◌∙◌, ap, inl, inr, Some, None}
-use Rattle.std.specs.Prelude.{Option, ◌⊎◌, pos, if◌then◌else◌, slice_get}
+use Rattle.std.specs.Prelude.{Option, pos, if◌then◌else◌, slice_get}
 use Rattle.std.specs.Ordering.{int_eq}
 use Rattle.std.proofs.lemmas.Bool.{cases_order}
 use Rattle.std.proofs.lemmas.Option.{none-some}

@@ -1,3 +1,4 @@
 -- Representation: the files of this folder.
 pub mod Fits
+pub mod Hints
 pub mod Walks

@@ -4,13 +4,15 @@ ghost use Rattle.std.specs.Prelude.{ℕ, ◌≡◌, ◌==◌, ◌+◌, ◌<◌, 
 ghost use Rattle.descriptor_parse.specs.Descriptor.{usage_list};
 ghost use Rattle.report_write.specs.Controls.{is_usage, places_with, controls_in, controls, control_of, place_in};
 ghost use Rattle.report_write.specs.representation.Fits.{FitsKept, FitsControl};
+ghost use Rattle.report_write.specs.representation.Hints.{AreHints, AreFrom, IsFrom};
 ghost use Rattle.report_write.specs.representation.Walks.{IsPlaceOf, AreServed};
 
+use crate::hints::{Hints, least_of};
 use crate::kept::{Kept, usages_of};
 use crate::setting::Target;
 use crate::unused::first_place;
 use descriptor_parse::{Descriptor, FieldUsages};
-use field_values::number_of_usage;
+use field_values::number_of_usage_from;
 
 /// A control of a report.
 #[derive(Clone, Copy, Debug, PartialEq, Eq)]
@@ -27,19 +29,49 @@ pub fn control_of(descriptor: &Descriptor, kept: &[Kept], target: Target) -> Opt
     ensures fits { (room : ℕ) → All (FitsKept descriptor.now room) kept.now → IfSome result (λ c. FitsControl descriptor.now room c) }
 {
     match target {
-        Target::Usage { usage, place } => control_with(descriptor, kept, usage, place),
+        Target::Usage { usage, place } => control_with(descriptor, kept, usage, place, (0, 0)),
         Target::Field { field, place } => place_of(kept, field, place),
     }
 }
 
-/// The control with this number among those that have a usage.
-fn control_with(descriptor: &Descriptor, kept: &[Kept], usage: u32, place: usize) -> Option<Control>
+/// The same, by tables.
+pub(crate) fn control_by(
+    descriptor: &Descriptor,
+    kept: &[Kept],
+    hints: &Hints,
+    target: Target,
+) -> Option<Control>
+    requires hints { AreHints descriptor.now kept.now hints.now.fields.items hints.now.ranges.items (length kept.now) }
+    ensures control { result ≡ control_of descriptor.now kept.now target }
+    ensures fits { (room : ℕ) → All (FitsKept descriptor.now room) kept.now → IfSome result (λ c. FitsControl descriptor.now room c) }
+{
+    match target {
+        Target::Usage { usage, place } => {
+            let from = (
+                least_of(&hints.fields, usage),
+                least_of(&hints.ranges, usage),
+            );
+            control_with(descriptor, kept, usage, place, from)
+        }
+        Target::Field { field, place } => place_of(kept, field, place),
+    }
+}
+
+/// The control with this number among those that have a usage. `from` is a field and a range in it: none before has it.
+fn control_with(
+    descriptor: &Descriptor,
+    kept: &[Kept],
+    usage: u32,
+    place: usize,
+    from: (usize, usize),
+) -> Option<Control>
+    requires { AreFrom descriptor.now kept.now usage from.0 from.1 }
     ensures { result ≡ slice_get (controls descriptor.now usage kept.now) place }
 {
     let mut left = place;
-    for number in 0..kept.len() {
+    for number in from.0..kept.len() {
         let declared = usages_of(descriptor, &kept[number]);
-        match control_in(&kept[number], &declared, usage, left) {
+        match control_in(&kept[number], &declared, usage, left, from.1) {
             Ok(control) => return Some(control),
             Err(past) => left = past,
         }
@@ -53,13 +85,15 @@ fn control_in(
     declared: &FieldUsages<'_>,
     usage: u32,
     number: usize,
+    from: usize,
 ) -> Result<Control, usize>
-    requires { declared.now.field ≡ kept.now.field }
+    requires same { declared.now.field ≡ kept.now.field }
+    requires before { IsFrom declared.now.ranges.now usage from }
     ensures here { IfOk result (λ control. slice_get (controls_in (usage_list declared.now.ranges.now) usage kept.now) number ≡ Some control) }
     ensures past { IfErr result (λ left. length (controls_in (usage_list declared.now.ranges.now) usage kept.now) + left ≡ number) }
 {
     if declared.field.array {
-        if !number_of_usage(declared, usage).is_some() {
+        if !number_of_usage_from(declared, from, usage).is_some() {
             Err(number)
         } else if number == 0 {
             Ok(Control::Usage(*kept, usage))
@@ -67,7 +101,7 @@ fn control_in(
             Err(number - 1)
         }
     } else {
-        match place_with(declared, usage, number) {
+        match place_with(declared, usage, number, from) {
             Ok(place) => Ok(Control::Place(*kept, place)),
             Err(left) => Err(left),
         }
@@ -75,13 +109,19 @@ fn control_in(
 }
 
 /// The place of a Variable field with this number among those that have a usage, or else the number without them.
-fn place_with(declared: &FieldUsages<'_>, usage: u32, number: usize) -> Result<u16, usize>
-    requires { declared.now.field.array ≡ false }
+fn place_with(
+    declared: &FieldUsages<'_>,
+    usage: u32,
+    number: usize,
+    from: usize,
+) -> Result<u16, usize>
+    requires variable { declared.now.field.array ≡ false }
+    requires before { IsFrom declared.now.ranges.now usage from }
     ensures here { IfOk result (λ place. slice_get (places_with declared.now.field (usage_list declared.now.ranges.now) usage declared.now.field.count) number ≡ Some place) }
     ensures past { IfErr result (λ left. length (places_with declared.now.field (usage_list declared.now.ranges.now) usage declared.now.field.count) + left ≡ number) }
 {
     let mut left = number;
-    for range in 0..declared.ranges.len() {
+    for range in from.min(declared.ranges.len())..declared.ranges.len() {
         if let Some(place) = place_in_range(declared, range, usage) {
             if left == 0 {
                 return Ok(place);

@@ -13,6 +13,7 @@ mod array;
 mod begin;
 mod control;
 mod fill;
+mod hints;
 mod kept;
 mod place;
 mod setting;

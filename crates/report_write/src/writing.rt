@@ -5,14 +5,16 @@ ghost use Rattle.std.specs.Option.{option_map};
 ghost use Rattle.descriptor_parse.specs.Descriptor.{bits_of, report_len};
 ghost use Rattle.report_write.specs.declared.setting.WriteError.{WriteError};
 ghost use Rattle.report_write.specs.representation.Fits.{FitsKept};
+ghost use Rattle.report_write.specs.representation.Hints.{AreHints};
 ghost use Rattle.report_write.specs.Settings.{refusal_at, IsSet, IsAfter, IsRefused};
 ghost use Rattle.report_write.specs.Begins.{begin_refusal, given_refusal, IsStart, IsNeverEmpty};
 ghost use Rattle.report_write.specs.Written.{IsWritten, IsNotWritten};
 
 use crate::array::set_usage;
 use crate::begin::{after_id, copy_of, refuse, with_id, zeros};
-use crate::control::{Control, control_of};
+use crate::control::{Control, control_by};
 use crate::fill::fill;
+use crate::hints::{Hints, hints_of};
 use crate::kept::{Kept, kept_fields};
 use crate::place::set_one;
 use crate::setting::{Setting, WriteError};
@@ -48,7 +50,8 @@ pub fn write(
     let kept = kept_fields(alloc, descriptor, null_states, kind, id)?;
     let mut bytes = start(alloc, descriptor, &kept, kind, id, len, onto)?;
     let mut marks = zeros(alloc, bytes.len())?;
-    set_all(descriptor, &kept, settings, &mut bytes, &mut marks)?;
+    let hints = hints_of(alloc, descriptor, &kept, settings.len())?;
+    set_all(descriptor, &kept, &hints, settings, &mut bytes, &mut marks)?;
     Ok(with_id(uses_ids, id, bytes)?)
 }
 
@@ -100,17 +103,27 @@ fn new_report(
 fn set_all(
     descriptor: &Descriptor,
     kept: &[Kept],
+    hints: &Hints,
     settings: &[Setting],
     bytes: &mut [u8],
     marks: &mut [u8],
 ) -> Result<(), WriteError>
+    requires hints { AreHints descriptor.now kept.now hints.now.fields.items hints.now.ranges.items (length kept.now) }
     requires fit { All (FitsKept descriptor.now (8 * length bytes.old)) kept.now }
     requires beside { length marks.old ≡ length bytes.old }
     ensures set { IfOk result (λ _. IsAfter descriptor.now kept.now settings.now bytes.old marks.old (length settings.now) bytes.new marks.new) }
     ensures refused { IfErr result (λ e. IsRefused descriptor.now kept.now settings.now bytes.old marks.old e) }
 {
     for number in 0..settings.len() {
-        set(descriptor, kept, &settings[number], number, bytes, marks)?;
+        set(
+            descriptor,
+            kept,
+            hints,
+            &settings[number],
+            number,
+            bytes,
+            marks,
+        )?;
     }
     Ok(())
 }
@@ -119,11 +132,13 @@ fn set_all(
 fn set(
     descriptor: &Descriptor,
     kept: &[Kept],
+    hints: &Hints,
     setting: &Setting,
     number: usize,
     bytes: &mut [u8],
     marks: &mut [u8],
 ) -> Result<(), WriteError>
+    requires hints { AreHints descriptor.now kept.now hints.now.fields.items hints.now.ranges.items (length kept.now) }
     requires fit { All (FitsKept descriptor.now (8 * length bytes.old)) kept.now }
     requires beside { length marks.old ≡ length bytes.old }
     ensures taken { IfOk result (λ _. refusal_at descriptor.now kept.now bytes.old marks.old number setting.now ≡ None) }
@@ -132,7 +147,7 @@ fn set(
     ensures long { IfOk result (λ _. length bytes.new ≡ length bytes.old) }
     ensures marks { IfOk result (λ _. length marks.new ≡ length marks.old) }
 {
-    match control_of(descriptor, kept, setting.target) {
+    match control_by(descriptor, kept, hints, setting.target) {
         None => Err(WriteError::Unknown(number)),
         Some(Control::Place(field, place)) => {
             set_one(&field, place, setting.asked, number, bytes, marks)

@@ -3,7 +3,13 @@ use Rattle.std.proofs.lemmas.Option.{slice_get_within}
 use Rattle.descriptor_parse.specs.Descriptor.{usage_list, ranges_at}
 use Rattle.report_write.specs.Controls.{controls_in}
 use Rattle.report_write.proofs.Controls.{controls_are, row_found, row_past}
+use Rattle.report_write.proofs.Hinted.{none_before}
 use Rattle.report_write.proofs.control.control_with.Goals as goal
+
+pub loop-number-init : goal.loop-number-init
+loop-number-init c =
+    let none = none_before c.args.descriptor.now c.args.kept.now c.args.usage c.args.from.0 c.args.from.1 c.requires in
+    omega (arith, none)
 
 pub returns-in-Ok : goal.returns-in-Ok
 returns-in-Ok c =

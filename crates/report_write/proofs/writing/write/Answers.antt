@@ -4,3 +4,6 @@ use Rattle.report_write.proofs.writing.write.Goals as goal
 
 pub returns-clause-written : goal.returns-clause-written
 returns-clause-written c = grind (arith, common_steps)
+
+pub set_all-requires-clause-hints : goal.set_all-requires-clause-hints
+set_all-requires-clause-hints c = rw c.deref-3.ensures.value (rw c.deref-2.ensures.value at c.in_ok-hints.ensures)

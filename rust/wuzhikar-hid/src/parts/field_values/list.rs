@@ -23,12 +23,17 @@ pub fn is_no_control(usage: Option<u32>) -> bool {
 /// The number of a usage in the list of a field, the first where it is listed more than once; `None` where it is not.
 /// A value of an Array that is so much above the Logical Minimum names it.
 pub fn number_of_usage(declared: &FieldUsages<'_>, usage: u32) -> Option<u32> {
-    number_in(declared.ranges, declared.counts, usage)
+    number_in(declared.ranges, declared.counts, 0, usage)
+}
+
+/// The same, where no range before this one has the usage.
+pub fn number_of_usage_from(declared: &FieldUsages<'_>, from: usize, usage: u32) -> Option<u32> {
+    number_in(declared.ranges, declared.counts, from, usage)
 }
 
 /// The same by ranges, beside each how many usages those up to it have.
-fn number_in(ranges: &[(u32, u32)], counts: &[u32], usage: u32) -> Option<u32> {
-    for place in 0..ranges.len() {
+fn number_in(ranges: &[(u32, u32)], counts: &[u32], from: usize, usage: u32) -> Option<u32> {
+    for place in from.min(ranges.len())..ranges.len() {
         if has(ranges[place], usage) {
             return Some(counts[place] - 1 - (ranges[place].1 - usage));
         }

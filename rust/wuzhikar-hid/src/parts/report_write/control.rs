@@ -1,11 +1,12 @@
 // Exported from crates/report_write/src/control.rt by bin/export-rust. Edit that file instead.
 //! The control that a setting means.
 
+use crate::parts::report_write::hints::{Hints, least_of};
 use crate::parts::report_write::kept::{Kept, usages_of};
 use crate::parts::report_write::setting::Target;
 use crate::parts::report_write::unused::first_place;
 use wuzhikar_reader::parts::descriptor_parse::{Descriptor, FieldUsages};
-use crate::parts::field_values::number_of_usage;
+use crate::parts::field_values::number_of_usage_from;
 
 /// A control of a report.
 #[derive(Clone, Copy, Debug, PartialEq, Eq)]
@@ -19,17 +20,42 @@ pub enum Control {
 /// The control that is meant; `None` where the report does not have it.
 pub fn control_of(descriptor: &Descriptor, kept: &[Kept], target: Target) -> Option<Control> {
     match target {
-        Target::Usage { usage, place } => control_with(descriptor, kept, usage, place),
+        Target::Usage { usage, place } => control_with(descriptor, kept, usage, place, (0, 0)),
         Target::Field { field, place } => place_of(kept, field, place),
     }
 }
 
-/// The control with this number among those that have a usage.
-fn control_with(descriptor: &Descriptor, kept: &[Kept], usage: u32, place: usize) -> Option<Control> {
+/// The same, by tables.
+pub(crate) fn control_by(
+    descriptor: &Descriptor,
+    kept: &[Kept],
+    hints: &Hints,
+    target: Target,
+) -> Option<Control> {
+    match target {
+        Target::Usage { usage, place } => {
+            let from = (
+                least_of(&hints.fields, usage),
+                least_of(&hints.ranges, usage),
+            );
+            control_with(descriptor, kept, usage, place, from)
+        }
+        Target::Field { field, place } => place_of(kept, field, place),
+    }
+}
+
+/// The control with this number among those that have a usage. `from` is a field and a range in it: none before has it.
+fn control_with(
+    descriptor: &Descriptor,
+    kept: &[Kept],
+    usage: u32,
+    place: usize,
+    from: (usize, usize),
+) -> Option<Control> {
     let mut left = place;
-    for number in 0..kept.len() {
+    for number in from.0..kept.len() {
         let declared = usages_of(descriptor, &kept[number]);
-        match control_in(&kept[number], &declared, usage, left) {
+        match control_in(&kept[number], &declared, usage, left, from.1) {
             Ok(control) => return Some(control),
             Err(past) => left = past,
         }
@@ -43,9 +69,10 @@ fn control_in(
     declared: &FieldUsages<'_>,
     usage: u32,
     number: usize,
+    from: usize,
 ) -> Result<Control, usize> {
     if declared.field.array {
-        if !number_of_usage(declared, usage).is_some() {
+        if !number_of_usage_from(declared, from, usage).is_some() {
             Err(number)
         } else if number == 0 {
             Ok(Control::Usage(*kept, usage))
@@ -53,7 +80,7 @@ fn control_in(
             Err(number - 1)
         }
     } else {
-        match place_with(declared, usage, number) {
+        match place_with(declared, usage, number, from) {
             Ok(place) => Ok(Control::Place(*kept, place)),
             Err(left) => Err(left),
         }
@@ -61,9 +88,14 @@ fn control_in(
 }
 
 /// The place of a Variable field with this number among those that have a usage, or else the number without them.
-fn place_with(declared: &FieldUsages<'_>, usage: u32, number: usize) -> Result<u16, usize> {
+fn place_with(
+    declared: &FieldUsages<'_>,
+    usage: u32,
+    number: usize,
+    from: usize,
+) -> Result<u16, usize> {
     let mut left = number;
-    for range in 0..declared.ranges.len() {
+    for range in from.min(declared.ranges.len())..declared.ranges.len() {
         if let Some(place) = place_in_range(declared, range, usage) {
             if left == 0 {
                 return Ok(place);

@@ -3,8 +3,9 @@
 
 use crate::parts::report_write::array::set_usage;
 use crate::parts::report_write::begin::{after_id, copy_of, refuse, with_id, zeros};
-use crate::parts::report_write::control::{Control, control_of};
+use crate::parts::report_write::control::{Control, control_by};
 use crate::parts::report_write::fill::fill;
+use crate::parts::report_write::hints::{Hints, hints_of};
 use crate::parts::report_write::kept::{Kept, kept_fields};
 use crate::parts::report_write::place::set_one;
 use crate::parts::report_write::setting::{Setting, WriteError};
@@ -36,7 +37,8 @@ pub fn write(
     let kept = kept_fields(alloc, descriptor, null_states, kind, id)?;
     let mut bytes = start(alloc, descriptor, &kept, kind, id, len, onto)?;
     let mut marks = zeros(alloc, bytes.len())?;
-    set_all(descriptor, &kept, settings, &mut bytes, &mut marks)?;
+    let hints = hints_of(alloc, descriptor, &kept, settings.len())?;
+    set_all(descriptor, &kept, &hints, settings, &mut bytes, &mut marks)?;
     Ok(with_id(uses_ids, id, bytes)?)
 }
 
@@ -75,12 +77,21 @@ fn new_report(
 fn set_all(
     descriptor: &Descriptor,
     kept: &[Kept],
+    hints: &Hints,
     settings: &[Setting],
     bytes: &mut [u8],
     marks: &mut [u8],
 ) -> Result<(), WriteError> {
     for number in 0..settings.len() {
-        set(descriptor, kept, &settings[number], number, bytes, marks)?;
+        set(
+            descriptor,
+            kept,
+            hints,
+            &settings[number],
+            number,
+            bytes,
+            marks,
+        )?;
     }
     Ok(())
 }
@@ -89,12 +100,13 @@ fn set_all(
 fn set(
     descriptor: &Descriptor,
     kept: &[Kept],
+    hints: &Hints,
     setting: &Setting,
     number: usize,
     bytes: &mut [u8],
     marks: &mut [u8],
 ) -> Result<(), WriteError> {
-    match control_of(descriptor, kept, setting.target) {
+    match control_by(descriptor, kept, hints, setting.target) {
         None => Err(WriteError::Unknown(number)),
         Some(Control::Place(field, place)) => {
             set_one(&field, place, setting.asked, number, bytes, marks)
