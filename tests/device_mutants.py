@@ -6,7 +6,7 @@ code and not what it does: the tests have to pass. Each worker has a copy of rus
 one crate anew. It takes some minutes.
 
 What is exported has its mutants beside its source, in crates/usb_device/must-fail and crates/usb_keyboard/must-fail; here stand those of
-it that no clause speaks of.
+it that no clause speaks of, and those of the settings on all pages, which the tests of `paged` of rust/wuzhikar-log kill.
 """
 
 import argparse
@@ -51,6 +51,13 @@ def write(path, text):
         file.write(text)
 
 
+def tests_of(name, driver):
+    """The tests of a file, as words of cargo."""
+    if name.startswith("../wuzhikar-log/"):
+        return ["-p", "wuzhikar-log", "--features", "sim,settings", "--lib", "paged"]
+    return ["-p", "wuzhikar-device", *(["--example", "drivers", driver] if driver else ["--lib"])]
+
+
 class Worker(threading.Thread):
     """Takes mutants from a queue, and tries them one after the other in its copy."""
 
@@ -62,12 +69,11 @@ class Worker(threading.Thread):
         self.environment = environment(work, *OF_PROGRAM)
         self.environment.update(CARGO_TARGET_DIR=f"{work}/target", HISTORIES="4000", RUST_BACKTRACE="0")
 
-    def cargo(self, driver):
-        """Runs the tests of the crate, or of a driver: the status, None where they hang, and what was printed. The time of the clock
-        says nothing of that, since it is that of the whole machine."""
+    def cargo(self, part):
+        """Runs some tests: the status, None where they hang, and what was printed. The time of the clock says nothing of that, since it
+        is that of the whole machine."""
         # Behind `ulimit` each program that is started has so many seconds of the processor for itself.
-        part = ["--example", "drivers", driver] if driver else ["--lib"]
-        command = ["sh", "-c", f'ulimit -t {SECONDS} && exec "$@"', "-", "cargo", "test", "-q", "-p", "wuzhikar-device", *part]
+        command = ["sh", "-c", f'ulimit -t {SECONDS} && exec "$@"', "-", "cargo", "test", "-q", *part]
         made = subprocess.run(command, cwd=self.rust, env=self.environment, text=True, stdout=subprocess.PIPE, stderr=subprocess.STDOUT)
         hangs = re.search(r"SIGXCPU|signal: (9|24)\b", made.stdout)
         return None if hangs else made.returncode, made.stdout
@@ -90,7 +96,7 @@ class Worker(threading.Thread):
         except ValueError as error:
             return False, str(error)
         try:
-            status, found = self.cargo(driver)
+            status, found = self.cargo(tests_of(mutant[0], driver))
         finally:
             write(changed, text)
         if status is None:

@@ -1,6 +1,7 @@
 //! A change of a setting, and the words that it is kept as.
 
-ghost use Rattle.std.specs.Prelude.{◌≡◌, ◌+◌, ◌<◌, ◌≤◌, ◌^◌, IfSome};
+ghost use Rattle.std.specs.Prelude.{◌≡◌, ◌+◌, ◌<◌, ◌≤◌, ◌^◌, MatchOption};
+ghost use Rattle.settings_log.specs.Changes.{IsShort};
 
 use crate::words::{Head, MAX_BYTES, data_word, data_words, head_word};
 
@@ -16,7 +17,7 @@ pub struct Change<'a> {
 /// The head of a change: whether it is the first and the last of those that are in force together. None where its value has more
 /// than 1,024 bytes.
 pub fn head_of(change: &Change<'_>, first: bool, last: bool) -> Option<Head>
-    ensures { IfSome result (λ head. head.len ≤ 1024) }
+    ensures { MatchOption result (IsShort change.now → ⊥) (λ head. IsShort change.now × (head.len ≤ 1024)) }
 {
     match change.value {
         None => Some(Head {

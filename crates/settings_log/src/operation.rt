@@ -2,7 +2,9 @@
 
 ghost use Rattle.std.specs.Prelude.{◌≡◌, ◌+◌, ◌<◌, ◌≤◌, ◌^◌, IfOk, IfSome};
 ghost use Rattle.flash_model.specs.declared.TheConstants.{PAGE_SLOTS};
-ghost use Rattle.flash_model.specs.Image.{page_count, IsImage};
+ghost use Rattle.flash_model.specs.Image.{page_count, slot_at};
+ghost use Rattle.records.specs.Slots.{slot_of};
+ghost use Rattle.settings_log.specs.Pages.{word_of};
 
 use crate::store::SettingsError;
 use crate::words::{Head, Word, head_of_word, word_kind};
@@ -10,8 +12,10 @@ use flash_model::{NorFlash, PAGE_SLOTS};
 use records::{Slot, classify, encode};
 
 /// The word of a slot; none where the page has no such slot, or it is not Good.
+#[tactic(auto, unfolding(crate::specs::Pages::word_of))]
 pub fn word_in<F: NorFlash>(flash: &F, page: usize, slot: usize) -> Option<u32>
     requires { page < page_count (F.image flash.now) }
+    ensures { slot < PAGE_SLOTS → result ≡ word_of (slot_of (slot_at (F.image flash.now) page slot)) }
 {
     if slot >= PAGE_SLOTS {
         return None;

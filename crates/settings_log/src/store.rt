@@ -1,7 +1,10 @@
 //! The calls of settings.
 
-ghost use Rattle.std.specs.Prelude.{◌≡◌, ◌+◌, ◌<◌, ◌≤◌, ◌^◌, IfSome, IfOk, Some, None, Err, length};
+ghost use Rattle.std.specs.Prelude.{◌≡◌, ◌+◌, ◌<◌, ◌≤◌, ◌^◌, ℕ, IfSome, IfOk, MatchResult, All, Some, None, Err, length};
 ghost use Rattle.flash_model.specs.Image.{page_count};
+ghost use Rattle.settings_log.specs.Changes.{IsShort};
+ghost use Rattle.settings_log.specs.Pages.{IsForeign, IsWhole};
+ghost use Rattle.settings_log.specs.declared.store.SettingsError.{SettingsError};
 
 use crate::change::{Change, head_of, size, word_at};
 use crate::moving::{advance, words_alive};
@@ -105,7 +108,11 @@ fn value_place<F: NorFlash>(flash: &F, id: u16) -> Option<(Place, Head)>
 }
 
 /// Stores a value of at most 1,024 bytes. Nothing is written where the id has this value already. Refusals as of `transaction`.
-pub fn set<F: NorFlash>(flash: &mut F, id: u16, bytes: &[u8]) -> Result<(), SettingsError> {
+pub fn set<F: NorFlash>(flash: &mut F, id: u16, bytes: &[u8]) -> Result<(), SettingsError>
+    ensures too_long { 1024 < length bytes.now → (result ≡ Err SettingsError.TooLong) × (flash.new ≡ flash.old) }
+    ensures foreign { (page : ℕ) → IsForeign (F.image flash.old) page → length bytes.now ≤ 1024 → (result ≡ Err SettingsError.Foreign) × (flash.new ≡ flash.old) }
+    ensures damaged { ((page : ℕ) → IsForeign (F.image flash.old) page → ⊥) → (IsWhole (F.image flash.old) → ⊥) → length bytes.now ≤ 1024 → (result ≡ Err SettingsError.Damaged) × (flash.new ≡ flash.old) }
+{
     transaction(
         flash,
         &[Change {
@@ -116,7 +123,10 @@ pub fn set<F: NorFlash>(flash: &mut F, id: u16, bytes: &[u8]) -> Result<(), Sett
 }
 
 /// Takes an id its value. Nothing is written where it has none. Refusals as of `transaction`, but that there is always room.
-pub fn remove<F: NorFlash>(flash: &mut F, id: u16) -> Result<(), SettingsError> {
+pub fn remove<F: NorFlash>(flash: &mut F, id: u16) -> Result<(), SettingsError>
+    ensures foreign { (page : ℕ) → IsForeign (F.image flash.old) page → (result ≡ Err SettingsError.Foreign) × (flash.new ≡ flash.old) }
+    ensures damaged { ((page : ℕ) → IsForeign (F.image flash.old) page → ⊥) → (IsWhole (F.image flash.old) → ⊥) → (result ≡ Err SettingsError.Damaged) × (flash.new ≡ flash.old) }
+{
     transaction(flash, &[Change { id, value: None }])
 }
 
@@ -125,10 +135,11 @@ pub fn remove<F: NorFlash>(flash: &mut F, id: u16) -> Result<(), SettingsError> 
 ///
 /// Refused are, in this order, `TooLong`, `Foreign`, `Damaged`, and `Full`, each before any operation; then `Worn`, and `Fault`
 /// where the flash failed. All values are as before then.
-pub fn transaction<F: NorFlash>(
-    flash: &mut F,
-    changes: &[Change<'_>],
-) -> Result<(), SettingsError> {
+pub fn transaction<F: NorFlash>(flash: &mut F, changes: &[Change<'_>]) -> Result<(), SettingsError>
+    ensures too_long { (All (λ change. IsShort change) changes.now → ⊥) → (result ≡ Err SettingsError.TooLong) × (flash.new ≡ flash.old) }
+    ensures foreign { (page : ℕ) → IsForeign (F.image flash.old) page → All (λ change. IsShort change) changes.now → (result ≡ Err SettingsError.Foreign) × (flash.new ≡ flash.old) }
+    ensures damaged { ((page : ℕ) → IsForeign (F.image flash.old) page → ⊥) → (IsWhole (F.image flash.old) → ⊥) → All (λ change. IsShort change) changes.now → (result ≡ Err SettingsError.Damaged) × (flash.new ≡ flash.old) }
+{
     let words = words_of(changes)?;
     usable(flash)?;
     if all_hold(flash, changes) {
@@ -144,7 +155,8 @@ pub fn transaction<F: NorFlash>(
 
 /// How many words changes take; a sum of more than 512 stays one. `TooLong` where a value has more than 1,024 bytes.
 fn words_of(changes: &[Change<'_>]) -> Result<usize, SettingsError>
-    ensures { IfOk result (λ words. words ≤ 855) }
+    ensures few { IfOk result (λ words. words ≤ 855) }
+    ensures short { MatchResult result (λ _. All (λ change. IsShort change) changes.now) (λ why. (why ≡ SettingsError.TooLong) × (All (λ change. IsShort change) changes.now → ⊥)) }
 {
     let mut words = 0;
     for change in changes {

@@ -1,6 +1,7 @@
 //! The words of a store: the header of a page, and those of a change.
 
 ghost use Rattle.std.specs.Prelude.{◌≡◌, ◌+◌, ◌*◌, ◌/◌, ◌%◌, ◌<◌, ◌≤◌, ◌^◌, Some, None, MatchOption, IfSome};
+ghost use Rattle.settings_log.specs.Pages.{number_of};
 
 /// The most bytes that a value has.
 pub const MAX_BYTES: usize = 1024;
@@ -53,7 +54,9 @@ pub enum Word {
 }
 
 /// The number of a page with this header.
+#[tactic(auto, unfolding(crate::specs::Pages::number_of))]
 pub fn number_of(word: u32) -> Option<u32>
+    ensures number { result ≡ number_of word }
     ensures small { IfSome result (λ number. number < 2 ^ 28) }
 {
     if word / NUMBERS == 3 {

@@ -1,9 +1,10 @@
-//! What no life with power losses shows: refusals by name, what is never written, and how full a flash can be.
+//! Refusals by name, what is never written, how full a flash can be, and a power loss inside each operation of some changes.
 
+use std::collections::BTreeMap;
 use std::vec::Vec;
 
 use super::*;
-use crate::{FlashLog, SimFlash};
+use crate::{FlashLog, Mask, SimFlash};
 
 type Settings = PagedSettings<SimFlash>;
 
@@ -130,5 +131,117 @@ fn a_spoiled_slot_loses_its_own_change_and_makes_no_other() {
             _ => unreachable!(),
         };
         assert_eq!(values(spoiled), left, "slot {slot}");
+    }
+    // The end of one value and the head of the next.
+    let mut spoiled = flash;
+    for slot in [6, 7, 10, 12] {
+        spoiled.program_slot(0, slot, [0; 8]).unwrap();
+    }
+    assert_eq!(values(spoiled), [some("before"), None, None]);
+}
+
+/// A flash whose power is cut inside an operation, which is torn by a mask: that behind `left` others. From then on nothing happens.
+struct Cut {
+    flash: SimFlash,
+    left: usize,
+    mask: u8,
+    is_off: bool,
+}
+
+impl Cut {
+    fn operate(&mut self, operation: impl FnOnce(&mut SimFlash) -> Result<(), FlashFault>) -> Result<(), FlashFault> {
+        if self.is_off {
+            return Err(FlashFault);
+        }
+        if self.left == 0 {
+            self.flash.fault_next(Mask::from_iter([self.mask]));
+            self.is_off = true;
+        }
+        self.left = self.left.saturating_sub(1);
+        operation(&mut self.flash)
+    }
+}
+
+impl NorFlash for Cut {
+    fn pages(&self) -> usize {
+        self.flash.pages()
+    }
+
+    fn read_slot(&self, page: usize, slot: usize) -> [u8; 8] {
+        self.flash.read_slot(page, slot)
+    }
+
+    fn program_slot(&mut self, page: usize, slot: usize, bytes: [u8; 8]) -> Result<(), FlashFault> {
+        self.operate(|flash| flash.program_slot(page, slot, bytes))
+    }
+
+    fn erase_page(&mut self, page: usize) -> Result<(), FlashFault> {
+        self.operate(|flash| flash.erase_page(page))
+    }
+}
+
+fn all(settings: &Settings) -> BTreeMap<u16, Vec<u8>> {
+    settings.ids().map(|id| (id, read(settings, id).unwrap())).collect()
+}
+
+fn apply(values: &mut BTreeMap<u16, Vec<u8>>, changes: &[Change<'_>]) {
+    for change in changes {
+        match change.value {
+            Some(value) => values.insert(change.id, value.to_vec()),
+            None => values.remove(&change.id),
+        };
+    }
+}
+
+/// Cuts the power inside each operation of some changes; returns the flash with all of them made.
+fn cut_everywhere(start: SimFlash, changes: &[Change<'_>]) -> SimFlash {
+    let before = all(&Settings::mount(start.clone()).unwrap());
+    let mut after = before.clone();
+    apply(&mut after, changes);
+    for left in 0.. {
+        for mask in [0, 0xFF, 0x5A] {
+            let mut cut = PagedSettings::mount(Cut { flash: start.clone(), left, mask, is_off: false }).unwrap();
+            let answer = cut.transaction(changes);
+            let Cut { flash, is_off, .. } = cut.into_flash();
+            let mut settings = Settings::mount(flash).unwrap();
+            let mut found = all(&settings);
+            assert!(found == after || is_off && found == before, "{found:?} is neither {before:?} nor {after:?}");
+            // Another change revives nothing of it, and then it is made again.
+            settings.set(6, [mask]).unwrap();
+            found.insert(6, [mask].to_vec());
+            assert_eq!(all(&settings), found);
+            settings.transaction(changes).unwrap();
+            apply(&mut found, changes);
+            assert_eq!(all(&settings), found);
+            if !is_off {
+                answer.unwrap();
+                return settings.into_flash();
+            }
+        }
+    }
+    unreachable!()
+}
+
+#[test]
+fn a_power_loss_inside_each_operation_leaves_all_changes_or_none() {
+    for pages in 2..=4 {
+        let mut settings = blank(pages);
+        for step in 0..40_u8 {
+            for filler in 0.. {
+                if settings.room_left() < 40 {
+                    break;
+                }
+                settings.set(9, [step ^ filler; 100]).unwrap();
+            }
+            let (id, value) = (u16::from(step / 4 % 4), [step; 20]);
+            let set = Change { id, value: Some(&value[..5 + usize::from(step % 15)]) };
+            let changes = match step % 4 {
+                0 => [set].to_vec(),
+                1 => [set, Change { id: 7, value: Some(&value) }, Change { id: 8, value: Some(&[]) }].to_vec(),
+                2 => [Change { id: 7, value: None }, set].to_vec(),
+                _ => [Change { id, value: None }].to_vec(),
+            };
+            settings = Settings::mount(cut_everywhere(settings.into_flash(), &changes)).unwrap();
+        }
     }
 }

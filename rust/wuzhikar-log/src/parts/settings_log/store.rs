@@ -112,10 +112,7 @@ pub fn remove<F: NorFlash>(flash: &mut F, id: u16) -> Result<(), SettingsError> 
 ///
 /// Refused are, in this order, `TooLong`, `Foreign`, `Damaged`, and `Full`, each before any operation; then `Worn`, and `Fault`
 /// where the flash failed. All values are as before then.
-pub fn transaction<F: NorFlash>(
-    flash: &mut F,
-    changes: &[Change<'_>],
-) -> Result<(), SettingsError> {
+pub fn transaction<F: NorFlash>(flash: &mut F, changes: &[Change<'_>]) -> Result<(), SettingsError> {
     let words = words_of(changes)?;
     usable(flash)?;
     if all_hold(flash, changes) {

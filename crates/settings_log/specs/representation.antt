@@ -1,0 +1,2 @@
+-- Representation: the files of this folder.
+pub mod Ring
