@@ -53,9 +53,10 @@ enum wz_status {
     WZ_UNSOUND = -16,    /* slot 0 of a page is not sound, so nothing may be written */
     WZ_WORN = -17,       /* the sequence numbers are used up */
     WZ_FAULT = -18,      /* the flash failed, and what was written doesn't read back; what was stored before stays */
-    WZ_TOO_LONG = -19,   /* a setting: more than 64 bytes */
-    WZ_FULL = -20,       /* settings: the values would not fit on a page */
-    WZ_FOREIGN = -21     /* settings: the flash holds words of something else */
+    WZ_TOO_LONG = -19,   /* a setting: more bytes than it may have */
+    WZ_FULL = -20,       /* settings: the values would not fit */
+    WZ_FOREIGN = -21,    /* settings: the flash holds words of something else */
+    WZ_DAMAGED = -22     /* settings on all pages: a page has lost its header, or a value reads otherwise than before */
 };
 
 /* The name of a status, as "NotStarted"; "Ok" from 0 on, "Unknown" for a number that is none. It lasts. */
@@ -453,6 +454,34 @@ int wz_settings_room_left(wz_settings *settings);
 
 /* Erases all pages, and so all values, and starts on them. WZ_PAGES, WZ_FAULT: some are erased. */
 int wz_settings_format(wz_settings *settings, const wz_flash *flash);
+
+/* ---- Settings on all pages: values of 0 to 1,024 bytes under ids of 16 bits (docs/log.md). This part may change. ----
+ *
+ * Each call is lent the flash, and keeps nothing: there is nothing to start. WZ_NULL and WZ_PAGES as of the flash. Of N pages N - 1
+ * hold values; a value of n bytes takes 1 + (n + 2) / 3 of the 510 slots of a page. */
+
+#define WZ_STORE_BYTES 1024
+
+/* The length of the value of an id, 0 to 1,024. WZ_ABSENT. */
+int wz_store_length(const wz_flash *flash, uint16_t id);
+
+/* Writes the value of an id, and gives its length. WZ_ABSENT; WZ_ROOM, and nothing is written; WZ_DAMAGED. */
+int wz_store_get(const wz_flash *flash, uint16_t id, uint8_t *bytes, size_t room);
+
+/* Stores a value, and returns when it is stored; nothing is written where the id has it. Where the newest page is full, at most
+ * N - 1 pages move, by an erase and up to 511 programs each. WZ_TOO_LONG, then WZ_FOREIGN, WZ_DAMAGED, WZ_FULL, WZ_WORN, WZ_FAULT:
+ * all values are as before. */
+int wz_store_set(const wz_flash *flash, uint16_t id, const uint8_t *bytes, size_t length);
+
+/* Takes an id its value; nothing is written where it has none. The statuses of wz_store_set, but WZ_FULL. */
+int wz_store_remove(const wz_flash *flash, uint16_t id);
+
+/* Stores at most 16 changes, of one id the last one: a loss of power leaves all of them or none. WZ_LENGTH for more, and the
+ * statuses of wz_store_set. */
+int wz_store_transaction(const wz_flash *flash, const wz_change *changes, size_t count);
+
+/* Erases all pages, and so all values. WZ_FAULT: some are erased. */
+int wz_store_format(const wz_flash *flash);
 
 #ifdef __cplusplus
 }

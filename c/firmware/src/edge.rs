@@ -218,6 +218,16 @@ impl<T: Copy> Room<T> {
         }
         Ok(values.len() as c_int)
     }
+
+    /// Lends the first places to a call, which finds zeros there. `Room` where there are fewer, and then nothing is written.
+    pub fn lend<R>(&self, length: usize, zero: T, call: impl FnOnce(&mut [T]) -> Result<R, Status>) -> Result<R, Status> {
+        if length > self.room || !self.start.is_aligned() {
+            return Err(Status::Room);
+        }
+        (0..length).for_each(|number| self.set(number, zero));
+        // SAFETY: as in `set`; all were written just now. The slice lives no longer than this call, in which nothing else is read there.
+        call(unsafe { core::slice::from_raw_parts_mut(self.start.as_ptr(), length) })
+    }
 }
 
 /// Memory that is lent to a call.

@@ -2,7 +2,7 @@
 //! The keyboard, its USB device layer, the log and settings behind a C ABI, for firmware. `wuzhikar.h` says of each call what
 //! it takes, gives and refuses.
 //!
-//! [`keyboard`], [`device`], [`log`], [`settings`] and [`paired`] are the objects of the header with their calls; [`flash`] and
+//! [`keyboard`], [`device`], [`log`], [`settings`] and [`paired`] are the objects of the header with their calls, [`store`] has calls without one; [`flash`] and
 //! [`driver`] are the tables of functions that a firmware lends, [`layout`] the codes that its keys have at first. [`edge`] has
 //! the only `unsafe` blocks: objects in the caller's memory, and its pointers. Written by hand: tested, not proved.
 #![cfg_attr(not(test), no_std)]
@@ -27,3 +27,5 @@ mod settings;
 mod sizes;
 #[allow(unsafe_code)] // the same
 mod status;
+#[allow(unsafe_code)] // the same
+mod store;

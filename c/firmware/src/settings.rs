@@ -15,7 +15,7 @@ impl Kept for Settings {
 }
 
 /// The length of a change that removes a value.
-const REMOVE: u16 = 0xffff;
+pub const REMOVE: u16 = 0xffff;
 
 /// The most changes of a transaction: each has a word of the 511 of a page, or takes one away.
 const MOST_CHANGES: usize = 1022;
@@ -24,9 +24,9 @@ const MOST_CHANGES: usize = 1022;
 #[repr(C)]
 #[derive(Clone, Copy)]
 pub struct ChangeIn {
-    bytes: Input<u8>,
-    id: u16,
-    length: u16,
+    pub bytes: Input<u8>,
+    pub id: u16,
+    pub length: u16,
 }
 
 fn stored(done: Result<(), SettingsError>) -> Answer {

@@ -48,6 +48,7 @@ statuses! {
     TooLong = -19, c"TooLong";
     Full = -20, c"Full";
     Foreign = -21, c"Foreign";
+    Damaged = -22, c"Damaged";
 }
 
 /// What a call returns to C.

@@ -45,6 +45,32 @@ static void stores_and_refuses(void) {
     NEEDS(wz_log_start(&one.log, &table) == WZ_OK && wz_settings_room_left(&one.settings) == WZ_NOT_STARTED);
 }
 
+/* A network, a certificate, a counter and a migration on all pages. */
+static void stores_on_all_pages(void) {
+    static uint8_t certificate[900], bytes[WZ_STORE_BYTES + 1];
+    blank(&flash);
+    for (size_t at = 0; at < sizeof certificate; at++)
+        certificate[at] = (uint8_t)(at * 7);
+    NEEDS(wz_store_length(&table, 1) == WZ_ABSENT && wz_store_set(&table, 1, (const uint8_t *)"home", 4) == WZ_OK);
+    NEEDS(wz_store_set(&table, 2, certificate, sizeof certificate) == WZ_OK && wz_store_length(&table, 2) == 900);
+    for (uint8_t count = 0; count < 200; count++)
+        NEEDS(wz_store_set(&table, 3, &count, 1) == WZ_OK);
+    const wz_change migration[3] = {{(const uint8_t *)"home", 4, 4}, {NULL, 1, WZ_REMOVE}, {(const uint8_t *)"1", 0, 1}};
+    flash.cut = 2;
+    NEEDS(wz_store_transaction(&table, migration, 3) == WZ_FAULT && flash.is_off);
+    power(&flash);
+    NEEDS(wz_store_length(&table, 0) == WZ_ABSENT && wz_store_length(&table, 1) == 4);
+    NEEDS(wz_store_transaction(&table, migration, 3) == WZ_OK && wz_store_length(&table, 1) == WZ_ABSENT);
+    NEEDS(wz_store_get(&table, 4, bytes, 4) == 4 && memcmp(bytes, "home", 4) == 0 && wz_store_get(&table, 3, bytes, 1) == 1 && *bytes == 199);
+    NEEDS(wz_store_get(&table, 2, bytes, 899) == WZ_ROOM && wz_store_get(&table, 2, bytes, 900) == 900);
+    NEEDS(memcmp(bytes, certificate, sizeof certificate) == 0 && wz_store_set(&table, 5, bytes, 1025) == WZ_TOO_LONG);
+    NEEDS(wz_store_set(&table, 5, bytes, 1024) == WZ_FULL && wz_store_transaction(&table, migration, 17) == WZ_LENGTH);
+    NEEDS(wz_store_remove(&table, 2) == WZ_OK && wz_store_set(&table, 5, bytes, 1024) == WZ_OK);
+    NEEDS(wz_settings_start(&settings, &table) == WZ_OK && wz_store_format(&table) == WZ_OK && wz_store_length(&table, 5) == WZ_ABSENT);
+    NEEDS(wz_settings_format(&settings, &table) == WZ_OK && set(1, "old") == WZ_OK);
+    NEEDS(wz_store_set(&table, 1, bytes, 1) == WZ_FOREIGN && is(1, "old") && wz_store_length(NULL, 1) == WZ_NULL);
+}
+
 /* Two values that are to differ by one at most, in a transaction each, and one that counts up. */
 static void outlives_cuts(int count) {
     uint32_t next = 1, chance = 1;
@@ -112,6 +138,7 @@ int main(int count, char **words) {
     table = table_of(&flash);
     stores_and_refuses();
     outlives_cuts(count > 1 ? atoi(words[1]) : 300);
+    stores_on_all_pages();
     stands_on_units_written_once();
     puts("settings outlive cuts, on units written once too, and refuse by name");
     return 0;
