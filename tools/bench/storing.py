@@ -15,6 +15,9 @@ CHANGES = 60_000
 # Bytes of a value, and how many ids have one.
 VALUES = [(1, 30), (10, 12), (64, 3)]
 
+# How many ids have a value on all pages.
+PAGED_IDS = [30, 200, 1000]
+
 CHIPS = {"thumbv7em": "Cortex-M4", "thumbv6m": "Cortex-M0+"}
 
 
@@ -48,6 +51,19 @@ def operations(room, folder):
         yield f"erases {what}", erases
 
 
+def on_all_pages(room, folder):
+    """The rows of settings on all pages: the slots that calls read, and the operations of the longest change."""
+    room.cargo("build", "--release", "--bin", "paged", cwd=folder, RUSTC=DEBIAN_RUSTC)
+    for ids in PAGED_IDS:
+        get, every, least, most, longest = map(int, room.run([room.program("paged"), str(ids)]).split())
+        on = f"on 8 pages, {ids:,} ids of 4 bytes"
+        yield f"slots read by a get {on}", get
+        yield f"slots read by ids {on}", every
+        yield f"slots read by the shortest set {on}", least
+        yield f"slots read by the longest of 2,000 sets {on}", most
+        yield f"flash operations of that set {on}", longest
+
+
 def rows(room):
     """All rows."""
     targets = [target for target in TARGETS if target.name in CHIPS]
@@ -58,7 +74,7 @@ def rows(room):
         raise Skipped("there is no ld.lld (Debian: lld)")
     folder = room.package("bench/settings")
     found = [row for target in targets for row in chip_rows(room, folder, target)]
-    return [Row("settings", what, number, None) for what, number in [*found, *operations(room, folder)]]
+    return [Row("settings", what, number, None) for what, number in [*found, *operations(room, folder), *on_all_pages(room, folder)]]
 
 
 SECTIONS = {"settings": rows}
