@@ -10,7 +10,7 @@ use crate::change::{Change, head_of, size, word_at};
 use crate::moving::{advance, words_alive};
 use crate::operation::{head_in, put, tail, word_in};
 use crate::ring::{counting, newest, usable};
-use crate::scan::{Place, find_since, unknown};
+use crate::scan::{Place, last_on};
 use crate::words::{Head, data_word, data_words, word_bytes};
 use flash_model::{NorFlash, PAGE_SLOTS};
 
@@ -87,11 +87,18 @@ fn value_place<F: NorFlash>(flash: &F, id: u16) -> Option<(Place, Head)>
     let Some(newest) = newest(flash) else {
         return None;
     };
-    let mut entries = [unknown(id)];
-    find_since(flash, newest, flash.pages() - 2, &mut entries);
-    let Some(place) = entries[0].found else {
-        return None;
-    };
+    for back in 0..flash.pages() - 1 {
+        if let Some(place) = last_on(flash, newest, back, id) {
+            return value_at(flash, place);
+        }
+    }
+    None
+}
+
+/// A change that gives a value, with its head; none where it takes one.
+fn value_at<F: NorFlash>(flash: &F, place: Place) -> Option<(Place, Head)>
+    ensures { IfSome result (λ found. (found.0.page < page_count (F.image flash.now)) × (found.1.len ≤ 1024)) }
+{
     if place.page as usize >= flash.pages() {
         return None;
     }

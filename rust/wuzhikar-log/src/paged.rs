@@ -79,8 +79,8 @@ impl<F: NorFlash> PagedSettings<F> {
         Ok(PagedSettings { flash })
     }
 
-    /// Reads the value of an id into bytes that the caller lends, and returns those that it has; `None` if it has no value. Each
-    /// page that counts is read once, and then the value's own slots.
+    /// Reads the value of an id into bytes that the caller lends, and returns those that it has; `None` if it has no value. The
+    /// pages that count are read up to the newest one with a change of the id, and then the value's own slots.
     ///
     /// # Errors
     ///

@@ -50,6 +50,16 @@ pub fn find_since<F: NorFlash>(flash: &F, newest: u32, back: usize, entries: &mu
     }
 }
 
+/// The last change in force of an id on the page so many before the newest.
+pub fn last_on<F: NorFlash>(flash: &F, newest: u32, back: usize, id: u16) -> Option<Place> {
+    let Some(page) = counting(flash, newest, back) else {
+        return None;
+    };
+    let mut entries = [unknown(id)];
+    find_on(flash, page, &mut entries);
+    entries[0].found
+}
+
 /// The last changes in force of some ids, where the page has any.
 fn find_on<F: NorFlash>(flash: &F, page: usize, entries: &mut [Entry]) {
     let _pages = flash.pages();

@@ -5,7 +5,7 @@ use crate::parts::settings_log::change::{Change, head_of, size, word_at};
 use crate::parts::settings_log::moving::{advance, words_alive};
 use crate::parts::settings_log::operation::{head_in, put, tail, word_in};
 use crate::parts::settings_log::ring::{counting, newest, usable};
-use crate::parts::settings_log::scan::{Place, find_since, unknown};
+use crate::parts::settings_log::scan::{Place, last_on};
 use crate::parts::settings_log::words::{Head, data_word, data_words, word_bytes};
 use crate::parts::flash_model::{NorFlash, PAGE_SLOTS};
 
@@ -71,11 +71,16 @@ fn value_place<F: NorFlash>(flash: &F, id: u16) -> Option<(Place, Head)> {
     let Some(newest) = newest(flash) else {
         return None;
     };
-    let mut entries = [unknown(id)];
-    find_since(flash, newest, flash.pages() - 2, &mut entries);
-    let Some(place) = entries[0].found else {
-        return None;
-    };
+    for back in 0..flash.pages() - 1 {
+        if let Some(place) = last_on(flash, newest, back, id) {
+            return value_at(flash, place);
+        }
+    }
+    None
+}
+
+/// A change that gives a value, with its head; none where it takes one.
+fn value_at<F: NorFlash>(flash: &F, place: Place) -> Option<(Place, Head)> {
     if place.page as usize >= flash.pages() {
         return None;
     }
