@@ -75,7 +75,7 @@ void wz_panic(void);
 
 #if UINTPTR_MAX > 0xffffffffu
 #define WZ_KEYBOARD_BYTES 1848
-#define WZ_DEVICE_BYTES 2328
+#define WZ_DEVICE_BYTES 2320
 #define WZ_LOG_BYTES 96
 #define WZ_SETTINGS_BYTES 120
 #define WZ_PAIRED_BYTES 72
