@@ -54,7 +54,7 @@ const WRONG: &[(&str, &[(&str, &str)])] = &[
     ("bumps_without_about", &[("    program_mark(flash, at, about(index), ZEROS)?;\n", "")]),
     (
         "switches_without_about",
-        &[("    program_mark(flash, old.page as usize, about(old.index as usize), ZEROS)?;\n", "")],
+        &[("    program_mark(flash, old.page as usize, about(old.index as u16), ZEROS)?;\n", "")],
     ),
     ("renews_no_marks", &[("< flash.triples() / 2", "< flash.triples()")]),
     ("programs_in_place", &[("        if held != BLANK {", "        if false {")]),

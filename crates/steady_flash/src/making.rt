@@ -97,7 +97,7 @@ fn make_pages<F: MarkedFlash>(flash: &mut F, keeps: bool) -> Result<(), Stop>
 {
     let pages = flash.pages() - 1;
     clear_claims(flash, pages - 1)?;
-    erase_all_marks(flash, pages)?;
+    erase_all_marks(flash)?;
     begin_pages(flash, pages, keeps)?;
     claim_pages(flash, pages)?;
     finish_pages(flash, pages)
@@ -111,17 +111,16 @@ fn clear_claims<F: MarkedFlash>(flash: &mut F, at: usize) -> Result<(), Stop>
     ensures healthy { F.is_healthy flash.old → IsOk result × F.is_healthy flash.new }
 {
     for index in 0..flash.triples() {
-        program_mark(flash, at, claim(index), ZEROS)?;
+        program_mark(flash, at, claim(index as u16), ZEROS)?;
     }
     Ok(())
 }
 
-fn erase_all_marks<F: MarkedFlash>(flash: &mut F, pages: usize) -> Result<(), Stop>
-    requires { IsServed (F.size flash.old) pages }
+fn erase_all_marks<F: MarkedFlash>(flash: &mut F) -> Result<(), Stop>
     ensures same_size { F.size flash.new ≡ F.size flash.old }
     ensures healthy { F.is_healthy flash.old → IsOk result × F.is_healthy flash.new }
 {
-    for at in 0..pages + 1 {
+    for at in 0..flash.pages() {
         erase_marks(flash, at)?;
     }
     Ok(())
@@ -186,7 +185,7 @@ pub fn why_not_found<F: MarkedFlash>(flash: &F, pages: usize) -> MountError
         is_other: false,
         is_done: false,
     };
-    for at in 0..pages + 1 {
+    for at in 0..flash.pages() {
         look_at_marks(flash, Place { pages, at }, &mut marks);
         if has_word(flash, at) {
             marks.is_other = true;
@@ -207,7 +206,7 @@ fn look_at_marks<F: MarkedFlash>(flash: &F, place: Place, marks: &mut Marks)
     requires in_pages { place.at < (F.size flash.now).pages }
     requires few { (F.size flash.now).triples ≤ 80 }
 {
-    for mark in 0..3 * flash.triples() + 1 {
+    for mark in 0..claim(flash.triples() as u16) {
         if let Some(word) = read_word(flash.read_mark(place.at, mark)) {
             if word.place != place {
                 marks.is_other = true;

@@ -27,27 +27,24 @@ pub const LAST_NUMBER: u32 = (1 << PLACE_AT) - 1;
 pub const OPEN: usize = 0;
 
 /// The mark that claims a page for a virtual one.
-pub fn claim(index: usize) -> usize
-    requires { index < 1000 }
+pub fn claim(index: u16) -> usize
     ensures { result ≡ 1 + 3 * index }
 {
-    1 + 3 * index
+    1 + 3 * index as usize
 }
 
 /// The mark behind a whole claim.
-pub fn done(index: usize) -> usize
-    requires { index < 1000 }
+pub fn done(index: u16) -> usize
     ensures { result ≡ 2 + 3 * index }
 {
-    2 + 3 * index
+    2 + 3 * index as usize
 }
 
 /// The mark before any greater claim of the same virtual page.
-pub fn about(index: usize) -> usize
-    requires { index < 1000 }
+pub fn about(index: u16) -> usize
     ensures { result ≡ 3 + 3 * index }
 {
-    3 + 3 * index
+    3 + 3 * index as usize
 }
 
 /// Where a mark stands: how many pages the log has, and which page of the flash the mark belongs to.
@@ -88,7 +85,7 @@ pub fn read_word(bytes: [u8; SLOT_BYTES]) -> Option<Word>
     let [a, b, c, d, _, _, _, _] = bytes;
     let word = u32::from_le_bytes([a, b, c, d]);
     let place = Place {
-        pages: (word >> PAGES_AT & 7) as usize + 1,
+        pages: ((word >> PAGES_AT & 7) + 1) as usize,
         at: (word >> PLACE_AT & 15) as usize,
     };
     if mark_bytes(word) == bytes && place.pages > 1 && place.at <= place.pages {

@@ -196,7 +196,7 @@ pub fn switch<F: MarkedFlash>(flash: &mut F, layout: &mut Layout, page: usize) -
     if old.number + 1 > LAST_NUMBER {
         return Err(Stop::Named(MountError::Worn));
     }
-    program_mark(flash, old.page as usize, about(old.index as usize), ZEROS)?;
+    program_mark(flash, old.page as usize, about(old.index as u16), ZEROS)?;
     if program_mark(
         flash,
         to,
@@ -286,9 +286,9 @@ pub fn bump<F: MarkedFlash>(flash: &mut F, layout: &mut Layout, page: usize) -> 
 {
     let held = layout.held[page];
     let at = held.page as usize;
-    let index = held.index as usize;
+    let index = held.index as u16;
     let number = held.number;
-    if index + 1 >= flash.triples() {
+    if (index + 1) as usize >= flash.triples() {
         return Err(Stop::Named(MountError::OutOfMarks));
     }
     if number + 2 > LAST_NUMBER {

@@ -114,7 +114,7 @@ fn bump_where_begun<F: MarkedFlash>(
 {
     let held = layout.held[page];
     let at = held.page as usize;
-    let index = held.index as usize;
+    let index = held.index as u16;
     let is_done = flash.read_mark(at, done(index)) == done_bytes(layout.place(at));
     let is_about = flash.read_mark(at, about(index)) != BLANK;
     if is_done && !is_about {
@@ -183,8 +183,7 @@ fn find_claims<F: MarkedFlash>(flash: &F, layout: &mut Layout) -> Result<(), Sto
     ensures found { (before : Layout) → IsClaimed (F.size flash.now) (F.marks flash.now) before → IsFoundTo before layout.old 0 0 → IfOk result (λ _. IsFoundTo before layout.new (layout.old.pages + 1) 0) }
     ensures ours { IsOurs (F.size flash.now) (F.marks flash.now) layout.old.pages → IsOk result }
 {
-    let pages = layout.pages;
-    for at in 0..pages + 1 {
+    for at in 0..flash.pages() {
         find_on(flash, layout, at)?;
     }
     Ok(())
@@ -200,7 +199,7 @@ fn find_on<F: MarkedFlash>(flash: &F, layout: &mut Layout, at: usize) -> Result<
     ensures ours { IsOurs (F.size flash.now) (F.marks flash.now) layout.old.pages → IsOk result }
 {
     for index in 0..flash.triples() {
-        let read = flash.read_mark(at, claim(index));
+        let read = flash.read_mark(at, claim(index as u16));
         take_claim(layout, at, index, read)?;
     }
     Ok(())

@@ -68,7 +68,7 @@ fn make<F: MarkedFlash>(flash: &mut F, keeps: bool) -> Result<Layout, MountError
 fn make_pages<F: MarkedFlash>(flash: &mut F, keeps: bool) -> Result<(), Stop> {
     let pages = flash.pages() - 1;
     clear_claims(flash, pages - 1)?;
-    erase_all_marks(flash, pages)?;
+    erase_all_marks(flash)?;
     begin_pages(flash, pages, keeps)?;
     claim_pages(flash, pages)?;
     finish_pages(flash, pages)
@@ -77,13 +77,13 @@ fn make_pages<F: MarkedFlash>(flash: &mut F, keeps: bool) -> Result<(), Stop> {
 /// The claim that an earlier call, which was cut, made last: without it no start finds what the erases tear.
 fn clear_claims<F: MarkedFlash>(flash: &mut F, at: usize) -> Result<(), Stop> {
     for index in 0..flash.triples() {
-        program_mark(flash, at, claim(index), ZEROS)?;
+        program_mark(flash, at, claim(index as u16), ZEROS)?;
     }
     Ok(())
 }
 
-fn erase_all_marks<F: MarkedFlash>(flash: &mut F, pages: usize) -> Result<(), Stop> {
-    for at in 0..pages + 1 {
+fn erase_all_marks<F: MarkedFlash>(flash: &mut F) -> Result<(), Stop> {
+    for at in 0..flash.pages() {
         erase_marks(flash, at)?;
     }
     Ok(())
@@ -133,7 +133,7 @@ pub fn why_not_found<F: MarkedFlash>(flash: &F, pages: usize) -> MountError {
         is_other: false,
         is_done: false,
     };
-    for at in 0..pages + 1 {
+    for at in 0..flash.pages() {
         look_at_marks(flash, Place { pages, at }, &mut marks);
         if has_word(flash, at) {
             marks.is_other = true;
@@ -151,7 +151,7 @@ pub fn why_not_found<F: MarkedFlash>(flash: &F, pages: usize) -> MountError {
 }
 
 fn look_at_marks<F: MarkedFlash>(flash: &F, place: Place, marks: &mut Marks) {
-    for mark in 0..3 * flash.triples() + 1 {
+    for mark in 0..claim(flash.triples() as u16) {
         if let Some(word) = read_word(flash.read_mark(place.at, mark)) {
             if word.place != place {
                 marks.is_other = true;

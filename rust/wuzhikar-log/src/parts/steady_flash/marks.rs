@@ -24,18 +24,18 @@ pub const LAST_NUMBER: u32 = (1 << PLACE_AT) - 1;
 pub const OPEN: usize = 0;
 
 /// The mark that claims a page for a virtual one.
-pub fn claim(index: usize) -> usize {
-    1 + 3 * index
+pub fn claim(index: u16) -> usize {
+    1 + 3 * index as usize
 }
 
 /// The mark behind a whole claim.
-pub fn done(index: usize) -> usize {
-    2 + 3 * index
+pub fn done(index: u16) -> usize {
+    2 + 3 * index as usize
 }
 
 /// The mark before any greater claim of the same virtual page.
-pub fn about(index: usize) -> usize {
-    3 + 3 * index
+pub fn about(index: u16) -> usize {
+    3 + 3 * index as usize
 }
 
 /// Where a mark stands: how many pages the log has, and which page of the flash the mark belongs to.
@@ -65,7 +65,7 @@ pub fn read_word(bytes: [u8; SLOT_BYTES]) -> Option<Word> {
     let [a, b, c, d, _, _, _, _] = bytes;
     let word = u32::from_le_bytes([a, b, c, d]);
     let place = Place {
-        pages: (word >> PAGES_AT & 7) as usize + 1,
+        pages: ((word >> PAGES_AT & 7) + 1) as usize,
         at: (word >> PLACE_AT & 15) as usize,
     };
     if mark_bytes(word) == bytes && place.pages > 1 && place.at <= place.pages {

@@ -65,7 +65,7 @@ fn bump_where_begun<F: MarkedFlash>(
 ) -> Result<(), Stop> {
     let held = layout.held[page];
     let at = held.page as usize;
-    let index = held.index as usize;
+    let index = held.index as u16;
     let is_done = flash.read_mark(at, done(index)) == done_bytes(layout.place(at));
     let is_about = flash.read_mark(at, about(index)) != BLANK;
     if is_done && !is_about {
@@ -110,8 +110,7 @@ fn find<F: MarkedFlash>(flash: &F, pages: usize) -> Result<Layout, Stop> {
 
 /// Reads each claim of the flash once, and keeps the greatest one of each page.
 fn find_claims<F: MarkedFlash>(flash: &F, layout: &mut Layout) -> Result<(), Stop> {
-    let pages = layout.pages;
-    for at in 0..pages + 1 {
+    for at in 0..flash.pages() {
         find_on(flash, layout, at)?;
     }
     Ok(())
@@ -119,7 +118,7 @@ fn find_claims<F: MarkedFlash>(flash: &F, layout: &mut Layout) -> Result<(), Sto
 
 fn find_on<F: MarkedFlash>(flash: &F, layout: &mut Layout, at: usize) -> Result<(), Stop> {
     for index in 0..flash.triples() {
-        let read = flash.read_mark(at, claim(index));
+        let read = flash.read_mark(at, claim(index as u16));
         take_claim(layout, at, index, read)?;
     }
     Ok(())
