@@ -158,7 +158,7 @@ over_no true true a b rest e = absurd (cc)
 over_no true false a b rest e = refl
 over_no false over a b rest e = absurd (cc)
 
-named_by : (array under over : Bool) (listed own : Option ℕ) → array ≡ true → under ≡ false → over ≡ false
+pub named_by : (array under over : Bool) (listed own : Option ℕ) → array ≡ true → under ≡ false → over ≡ false
     → (if array then (if not under && not over then listed else None) else own) ≡ listed
 named_by array under over listed own a u o = rw (a, u, o) refl
 
@@ -167,7 +167,7 @@ listed_here usages usage number e =
     let (within, passes, before) = position-Some (λ other. other == usage) usages number 0 e in
     slice_get-get_or usages number 0 within ∙ ap Some (eqb-true (get_or usages number 0) usage passes)
 
-not_under : (a : ℤ) (n : ℕ) → int_lt (a +ℤ pos n) a ≡ false
+pub not_under : (a : ℤ) (n : ℕ) → int_lt (a +ℤ pos n) a ≡ false
 not_under a n = grind (arith, ints)
 
 pub named_on : (f : Field) (usages : List ℕ) (usage number : ℕ) (old new marks_old marks_new : List ℕ) → f.array ≡ true

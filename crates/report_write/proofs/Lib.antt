@@ -14,6 +14,7 @@ mod FilledHeld
 mod Untouched
 mod Held
 mod ArraysFound
+mod Knowing
 mod ArraysGone
 mod TheoremsHold
 mod ArraysNamed

@@ -5,6 +5,7 @@ ghost use Rattle.descriptor_parse.specs.Descriptor.{usage_list};
 ghost use Rattle.report_write.specs.Controls.{is_usage, places_with, controls_in, controls, control_of, place_in};
 ghost use Rattle.report_write.specs.representation.Fits.{FitsKept, FitsControl};
 ghost use Rattle.report_write.specs.representation.Hints.{AreHints, AreFrom, IsFrom};
+ghost use Rattle.report_write.specs.representation.Known.{IsOfReport};
 ghost use Rattle.report_write.specs.representation.Walks.{IsPlaceOf, AreServed};
 
 use crate::hints::{Hints, least_of};
@@ -43,6 +44,7 @@ pub(crate) fn control_by(
 ) -> Option<Control>
     requires hints { AreHints descriptor.now kept.now hints.now.fields.items hints.now.ranges.items (length kept.now) }
     ensures control { result ≡ control_of descriptor.now kept.now target }
+    ensures its { IfSome result (λ c. IsOfReport descriptor.now kept.now hints.now.ranges.items c) }
     ensures fits { (room : ℕ) → All (FitsKept descriptor.now room) kept.now → IfSome result (λ c. FitsControl descriptor.now room c) }
 {
     match target {

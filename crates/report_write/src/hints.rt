@@ -11,7 +11,7 @@ use descriptor_parse::Descriptor;
 use std::alloc::{AllocError, Global};
 
 /// So few settings are looked for without a table.
-const FEW: usize = 8;
+pub(crate) const FEW: usize = 8;
 
 /// A range of more usages than this is noted for all usages.
 const WIDE: u32 = 64;
@@ -58,7 +58,7 @@ fn size_for(descriptor: &Descriptor, kept: &[Kept]) -> usize {
 }
 
 /// A table of so many slots, in which nothing is noted.
-fn table(alloc: Global, size: usize) -> Result<Vec<u32>, AllocError> {
+pub(crate) fn table(alloc: Global, size: usize) -> Result<Vec<u32>, AllocError> {
     let mut slots = Vec::with_capacity(alloc, size)?;
     for _ in 0..size {
         slots.push(u32::MAX)?;
@@ -87,7 +87,7 @@ fn note_range(slots: &mut [u32], first: u32, last: u32, number: usize)
     ensures fell { (usage : ℕ) → least_of slots.new usage ≤ least_of slots.old usage }
     ensures noted { (usage : ℕ) → first ≤ usage → usage ≤ last → least_of slots.new usage ≤ number }
 {
-    if slots.len() < 2 || last < first {
+    if slots.len() < 3 || last < first {
         return;
     }
     let least = at_most(number);
@@ -101,8 +101,8 @@ fn note_range(slots: &mut [u32], first: u32, last: u32, number: usize)
 }
 
 /// Notes a number for a usage.
-fn note(slots: &mut [u32], usage: u32, number: u32)
-    requires some { 2 ≤ length slots.old }
+pub(crate) fn note(slots: &mut [u32], usage: u32, number: u32)
+    requires some { 3 ≤ length slots.old }
     ensures length { length slots.new ≡ length slots.old }
     ensures fell { (u : ℕ) → least_of slots.new u ≤ least_of slots.old u }
     ensures noted { least_of slots.new usage ≤ number }
@@ -129,7 +129,7 @@ fn lower(slots: &mut [u32], slot: usize, number: u32)
 pub(crate) fn least_of(slots: &[u32], usage: u32) -> usize
     ensures { result ≡ least_of slots.now usage }
 {
-    if slots.len() < 2 {
+    if slots.len() < 3 {
         return 0;
     }
     let all = slots[slots.len() - 1];
@@ -143,20 +143,20 @@ pub(crate) fn least_of(slots: &[u32], usage: u32) -> usize
 
 /// The first slot of a usage.
 fn near(usage: u32, len: usize) -> usize
-    requires some { 2 ≤ len }
+    requires some { 3 ≤ len }
     ensures same { result ≡ near usage len }
     ensures within { result < len }
 {
-    usage as usize % (len - 1)
+    usage as usize % ((len - 1) / 2)
 }
 
 /// Its second slot.
 fn far(usage: u32, len: usize) -> usize
-    requires some { 2 ≤ len }
+    requires some { 3 ≤ len }
     ensures same { result ≡ far usage len }
     ensures within { result < len }
 {
-    (usage / 7) as usize % (len - 1)
+    len - 2 - (usage / 7) as usize % ((len - 1) / 2)
 }
 
 /// A number, or the greatest of 32 bits that is not over it.

@@ -6,6 +6,7 @@ ghost use Rattle.descriptor_parse.specs.Descriptor.{bits_of, report_len};
 ghost use Rattle.report_write.specs.declared.setting.WriteError.{WriteError};
 ghost use Rattle.report_write.specs.representation.Fits.{FitsKept};
 ghost use Rattle.report_write.specs.representation.Hints.{AreHints};
+ghost use Rattle.report_write.specs.representation.Known.{IsKnownOf, AreOne};
 ghost use Rattle.report_write.specs.Settings.{refusal_at, IsSet, IsAfter, IsRefused};
 ghost use Rattle.report_write.specs.Begins.{begin_refusal, given_refusal, IsStart, IsNeverEmpty};
 ghost use Rattle.report_write.specs.Written.{IsWritten, IsNotWritten};
@@ -14,8 +15,9 @@ use crate::array::set_usage;
 use crate::begin::{after_id, copy_of, refuse, with_id, zeros};
 use crate::control::{Control, control_by};
 use crate::fill::fill;
-use crate::hints::{Hints, hints_of};
-use crate::kept::{Kept, kept_fields};
+use crate::hints::{Hints, hints_of, least_of};
+use crate::kept::{Kept, kept_fields, usages_of};
+use crate::known::{Known, know, known_for};
 use crate::place::set_one;
 use crate::setting::{Setting, WriteError};
 use descriptor_parse::{Descriptor, Kind};
@@ -51,7 +53,10 @@ pub fn write(
     let mut bytes = start(alloc, descriptor, &kept, kind, id, len, onto)?;
     let mut marks = zeros(alloc, bytes.len())?;
     let hints = hints_of(alloc, descriptor, &kept, settings.len())?;
-    set_all(descriptor, &kept, &hints, settings, &mut bytes, &mut marks)?;
+    let mut known = known_for(alloc, &kept, settings.len())?;
+    set_all(
+        descriptor, &kept, &hints, &mut known, settings, &mut bytes, &mut marks,
+    )?;
     Ok(with_id(uses_ids, id, bytes)?)
 }
 
@@ -104,11 +109,14 @@ fn set_all(
     descriptor: &Descriptor,
     kept: &[Kept],
     hints: &Hints,
+    known: &mut Known,
     settings: &[Setting],
     bytes: &mut [u8],
     marks: &mut [u8],
 ) -> Result<(), WriteError>
     requires hints { AreHints descriptor.now kept.now hints.now.fields.items hints.now.ranges.items (length kept.now) }
+    requires one { AreOne kept.now }
+    requires known { IsKnownOf descriptor.now kept.now bytes.old marks.old known.old.field known.old.free known.old.named.items }
     requires fit { All (FitsKept descriptor.now (8 * length bytes.old)) kept.now }
     requires beside { length marks.old ≡ length bytes.old }
     ensures set { IfOk result (λ _. IsAfter descriptor.now kept.now settings.now bytes.old marks.old (length settings.now) bytes.new marks.new) }
@@ -119,6 +127,7 @@ fn set_all(
             descriptor,
             kept,
             hints,
+            known,
             &settings[number],
             number,
             bytes,
@@ -133,12 +142,15 @@ fn set(
     descriptor: &Descriptor,
     kept: &[Kept],
     hints: &Hints,
+    known: &mut Known,
     setting: &Setting,
     number: usize,
     bytes: &mut [u8],
     marks: &mut [u8],
 ) -> Result<(), WriteError>
     requires hints { AreHints descriptor.now kept.now hints.now.fields.items hints.now.ranges.items (length kept.now) }
+    requires one { AreOne kept.now }
+    requires known { IsKnownOf descriptor.now kept.now bytes.old marks.old known.old.field known.old.free known.old.named.items }
     requires fit { All (FitsKept descriptor.now (8 * length bytes.old)) kept.now }
     requires beside { length marks.old ≡ length bytes.old }
     ensures taken { IfOk result (λ _. refusal_at descriptor.now kept.now bytes.old marks.old number setting.now ≡ None) }
@@ -146,16 +158,27 @@ fn set(
     ensures set { IfOk result (λ _. IsSet descriptor.now kept.now setting.now bytes.old bytes.new marks.old marks.new) }
     ensures long { IfOk result (λ _. length bytes.new ≡ length bytes.old) }
     ensures marks { IfOk result (λ _. length marks.new ≡ length marks.old) }
+    ensures known { IfOk result (λ _. IsKnownOf descriptor.now kept.now bytes.new marks.new known.new.field known.new.free known.new.named.items) }
 {
     match control_by(descriptor, kept, hints, setting.target) {
         None => Err(WriteError::Unknown(number)),
         Some(Control::Place(field, place)) => {
+            known.field = None;
             set_one(&field, place, setting.asked, number, bytes, marks)
         }
         Some(Control::Usage(field, usage)) => {
+            know(
+                known,
+                field.number,
+                &usages_of(descriptor, &field),
+                bytes,
+                marks,
+            );
             set_usage(
                 descriptor,
                 &field,
+                known,
+                least_of(&hints.ranges, usage),
                 usage,
                 setting.asked,
                 number,

@@ -3,17 +3,17 @@ use Rattle.std.specs.Prelude.{◌≡◌, ℕ, ◌-◌, ◌/◌, ◌%◌, ◌<◌
 use Rattle.descriptor_parse.specs.Descriptor.{DescriptorValue, ranges_at}
 use Rattle.report_write.specs.declared.kept.Kept.{Kept}
 
--- two slots of a usage in a table, whose last slot is of all
+-- two slots of a usage in a table, one in each half; its last slot is of all
 abbrev pub near : ℕ → ℕ → ℕ
-near usage len = usage % (len - 1)
+near usage len = usage % ((len - 1) / 2)
 
 abbrev pub far : ℕ → ℕ → ℕ
-far usage len = usage / 7 % (len - 1)
+far usage len = len - 2 - usage / 7 % ((len - 1) / 2)
 
 -- the number that a table has of a usage; an empty one has 0
 abbrev pub least_of : List ℕ → ℕ → ℕ
 least_of slots usage =
-    if nat_lt (length slots) 2 then 0
+    if nat_lt (length slots) 3 then 0
     else min (max (slice_index_or slots (near usage (length slots)) 0) (slice_index_or slots (far usage (length slots)) 0)) (slice_index_or slots (length slots - 1) 0)
 
 -- a range has a usage

@@ -15,6 +15,7 @@ mod control;
 mod fill;
 mod hints;
 mod kept;
+mod known;
 mod place;
 mod setting;
 mod unused;

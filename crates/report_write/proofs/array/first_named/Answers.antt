@@ -1,11 +1,14 @@
 use Rattle.std.proofs.Common.{◌≡◌, ◌∙◌, sym, arith}
 use Rattle.descriptor_parse.specs.Descriptor.{usage_list}
 use Rattle.report_write.specs.Arrays.{names}
-use Rattle.report_write.proofs.Firsts.{no_first, still_none, first_is}
+use Rattle.report_write.proofs.Firsts.{still_none, first_is}
+use Rattle.report_write.proofs.Knowing.{none_under}
 use Rattle.report_write.proofs.array.first_named.Goals as goal
 
 pub loop-place-init : goal.loop-place-init
-loop-place-init c = no_first (names c.args.declared.now.field (usage_list c.args.declared.now.ranges.now) c.args.bytes.now c.args.usage)
+loop-place-init c =
+    rw c.at_most-place.ensures (none_under (names c.args.declared.now.field (usage_list c.args.declared.now.ranges.now) c.args.bytes.now c.args.usage)
+    c.args.declared.now.field.count c.args.from c.requires.from)
 
 pub loop-place-preserved : goal.loop-place-preserved
 loop-place-preserved c =

@@ -2,6 +2,9 @@ use Rattle.std.proofs.Common.{◌≡◌, ◌∙◌, refl, sym, rules, to_z, of_z
 use Rattle.std.specs.Prelude.{pos, ◌+ℤ◌, Some, None}
 use Rattle.descriptor_parse.specs.Descriptor.{usage_list}
 use Rattle.report_write.proofs.Controls.{listed_first}
+use Rattle.report_write.proofs.ArraysCleared.{all_bits}
+use Rattle.report_write.proofs.Hinted.{whole}
+use Rattle.report_write.proofs.Knowing.{known_put, read_on}
 use Rattle.report_write.proofs.ArraysRefused.{on_unknown, on_too_large, on_out_of_range, on_place, taken_twice, taken_once}
 use Rattle.report_write.proofs.array.put_in.Goals as goal
 
@@ -78,3 +81,23 @@ returns-clause-set c =
       put = rw value at c.put_one.ensures;
       marked = c.mark.ensures;
     }
+
+pub mark-requires-clause-bits : goal.mark-requires-clause-bits
+mark-requires-clause-bits c =
+    all_bits c.args.declared.now.field c.args.declared.now.ranges.now c.args.bytes.now c.args.marks.now c.in-Some-place_for.place c.requires.fits c.requires.beside
+    c.in-Some-place_for.ensures.within
+
+pub returns-clause-known : goal.returns-clause-known
+returns-clause-known c =
+    let field = c.args.declared.now.field in
+    let usages = usage_list c.args.declared.now.ranges.now in
+    let most : to_z w64 (of_z w64 field.max) ≡ field.max = search rules in
+    let value : to_z w64 (of_z w64 (to_z w64 (of_z w64 field.min) +ℤ to_z w64 c.in-Some.listed)) ≡ field.min +ℤ pos c.in-Some.listed = search rules in
+    let over = rw (value, most) at c.if-value-declared.false in
+    let named = c.place_for.new.known.named in
+    rw (whole c.note_if.new.slots named.items named.len (rw c.deref_mut.ensures.value at c.note_if.ensures.length) named.ok.0)
+    (known_put field usages c.args.usage c.in-Some-place_for.place (field.min +ℤ pos c.in-Some.listed) c.args.bytes.now c.put_one.new.bytes c.args.marks.now c.mark.new.marks
+    c.place_for.new.known.free named.items c.note_if.new.slots
+    c.requires.fits.size_some c.place_for.ensures.known (rw value at c.put_one.ensures) c.mark.ensures
+    (read_on field usages c.args.usage c.in-Some.listed c.requires.array over c.in-Some.ensures _)
+    (rw c.deref_mut.ensures.value at c.note_if.ensures.fell) c.note_if.ensures.noted)

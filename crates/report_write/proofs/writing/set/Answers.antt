@@ -1,6 +1,7 @@
-use Rattle.std.proofs.Common.{◌∙◌, sym, ap, Some, None}
+use Rattle.std.proofs.Common.{◌∙◌, ◌*◌, length, sym, ap, Some, None}
 use Rattle.std.proofs.lemmas.Result.{IfOk-weaker}
 use Rattle.report_write.proofs.SettingsSet.{refused_by, set_by}
+use Rattle.report_write.proofs.Knowing.{known_on}
 use Rattle.report_write.proofs.writing.set.Goals as goal
 
 pub returns-in-None-clause-refused : goal.returns-in-None-clause-refused
@@ -39,3 +40,23 @@ returns-in-Some-Usage-clause-set c =
     let found = sym c.control_by.ensures.control ∙ c.in-Some-Usage.is ∙ ap Some c.in-Some-Usage.field-0-is in
     IfOk-weaker c.set_usage.result _ _ (λ _ s. set_by c.args.descriptor.now c.args.kept.now c.args.setting.now c.args.bytes.now c.set_usage.new.bytes
     c.args.marks.now c.set_usage.new.marks _ found s) c.set_usage.ensures.set
+
+pub know-requires-clause-known : goal.know-requires-clause-known
+know-requires-clause-known c = λ of.
+    let its = rw c.in-Some-Usage.field-0-is at c.in-Some-Usage.ensures.its in
+    rw (c.usages_of.ensures.field, c.usages_of.ensures.ranges) (c.requires.known its.0.0 c.in-Some-Usage.field its.0.1 of)
+
+pub set_usage-requires-clause-fits : goal.set_usage-requires-clause-fits
+set_usage-requires-clause-fits c =
+    (rw c.in-Some-Usage.field-0-is at (c.in-Some-Usage.ensures.fits (8 * length c.args.bytes.now) c.requires.fit)).0
+
+pub set_usage-requires-clause-array : goal.set_usage-requires-clause-array
+set_usage-requires-clause-array c =
+    (rw c.in-Some-Usage.field-0-is at (c.in-Some-Usage.ensures.fits (8 * length c.args.bytes.now) c.requires.fit)).1
+
+pub returns-in-Some-Usage-clause-known : goal.returns-in-Some-Usage-clause-known
+returns-in-Some-Usage-clause-known c =
+    let its = rw c.in-Some-Usage.field-0-is at c.in-Some-Usage.ensures.its in
+    IfOk-weaker c.set_usage.result _ _ (λ _ s. known_on c.args.descriptor.now c.args.kept.now c.set_usage.new.bytes c.set_usage.new.marks c.know.new.known.field
+    c.set_usage.new.known.field c.set_usage.new.known.free c.set_usage.new.known.named.items its.0.0 c.in-Some-Usage.field c.requires.one its.0.1 c.know.ensures.field s)
+    c.set_usage.ensures.known

@@ -9,7 +9,7 @@ use wuzhikar_reader::parts::descriptor_parse::Descriptor;
 use crate::rattle::alloc::{AllocError, Global};
 
 /// So few settings are looked for without a table.
-const FEW: usize = 8;
+pub(crate) const FEW: usize = 8;
 
 /// A range of more usages than this is noted for all usages.
 const WIDE: u32 = 64;
@@ -53,7 +53,7 @@ fn size_for(descriptor: &Descriptor, kept: &[Kept]) -> usize {
 }
 
 /// A table of so many slots, in which nothing is noted.
-fn table(alloc: Global, size: usize) -> Result<crate::rattle::Vec<u32>, AllocError> {
+pub(crate) fn table(alloc: Global, size: usize) -> Result<crate::rattle::Vec<u32>, AllocError> {
     let mut slots = crate::rattle::vec::with_capacity(alloc, size)?;
     for _ in 0..size {
         slots.push_in(u32::MAX)?;
@@ -72,7 +72,7 @@ fn note_field(its: &[(u32, u32)], field: usize, fields: &mut [u32], ranges: &mut
 
 /// Notes a number for each usage of a range.
 fn note_range(slots: &mut [u32], first: u32, last: u32, number: usize) {
-    if slots.len() < 2 || last < first {
+    if slots.len() < 3 || last < first {
         return;
     }
     let least = at_most(number);
@@ -86,7 +86,7 @@ fn note_range(slots: &mut [u32], first: u32, last: u32, number: usize) {
 }
 
 /// Notes a number for a usage.
-fn note(slots: &mut [u32], usage: u32, number: u32) {
+pub(crate) fn note(slots: &mut [u32], usage: u32, number: u32) {
     let one = near(usage, slots.len());
     let other = far(usage, slots.len());
     lower(slots, one, number);
@@ -102,7 +102,7 @@ fn lower(slots: &mut [u32], slot: usize, number: u32) {
 
 /// The number that is noted of a usage, or a lower one.
 pub(crate) fn least_of(slots: &[u32], usage: u32) -> usize {
-    if slots.len() < 2 {
+    if slots.len() < 3 {
         return 0;
     }
     let all = slots[slots.len() - 1];
@@ -116,12 +116,12 @@ pub(crate) fn least_of(slots: &[u32], usage: u32) -> usize {
 
 /// The first slot of a usage.
 fn near(usage: u32, len: usize) -> usize {
-    usage as usize % (len - 1)
+    usage as usize % ((len - 1) / 2)
 }
 
 /// Its second slot.
 fn far(usage: u32, len: usize) -> usize {
-    (usage / 7) as usize % (len - 1)
+    len - 2 - (usage / 7) as usize % ((len - 1) / 2)
 }
 
 /// A number, or the greatest of 32 bits that is not over it.

@@ -5,8 +5,9 @@ use crate::parts::report_write::array::set_usage;
 use crate::parts::report_write::begin::{after_id, copy_of, refuse, with_id, zeros};
 use crate::parts::report_write::control::{Control, control_by};
 use crate::parts::report_write::fill::fill;
-use crate::parts::report_write::hints::{Hints, hints_of};
-use crate::parts::report_write::kept::{Kept, kept_fields};
+use crate::parts::report_write::hints::{Hints, hints_of, least_of};
+use crate::parts::report_write::kept::{Kept, kept_fields, usages_of};
+use crate::parts::report_write::known::{Known, know, known_for};
 use crate::parts::report_write::place::set_one;
 use crate::parts::report_write::setting::{Setting, WriteError};
 use wuzhikar_reader::parts::descriptor_parse::{Descriptor, Kind};
@@ -38,7 +39,10 @@ pub fn write(
     let mut bytes = start(alloc, descriptor, &kept, kind, id, len, onto)?;
     let mut marks = zeros(alloc, bytes.len())?;
     let hints = hints_of(alloc, descriptor, &kept, settings.len())?;
-    set_all(descriptor, &kept, &hints, settings, &mut bytes, &mut marks)?;
+    let mut known = known_for(alloc, &kept, settings.len())?;
+    set_all(
+        descriptor, &kept, &hints, &mut known, settings, &mut bytes, &mut marks,
+    )?;
     Ok(with_id(uses_ids, id, bytes)?)
 }
 
@@ -78,6 +82,7 @@ fn set_all(
     descriptor: &Descriptor,
     kept: &[Kept],
     hints: &Hints,
+    known: &mut Known,
     settings: &[Setting],
     bytes: &mut [u8],
     marks: &mut [u8],
@@ -87,6 +92,7 @@ fn set_all(
             descriptor,
             kept,
             hints,
+            known,
             &settings[number],
             number,
             bytes,
@@ -101,6 +107,7 @@ fn set(
     descriptor: &Descriptor,
     kept: &[Kept],
     hints: &Hints,
+    known: &mut Known,
     setting: &Setting,
     number: usize,
     bytes: &mut [u8],
@@ -109,12 +116,22 @@ fn set(
     match control_by(descriptor, kept, hints, setting.target) {
         None => Err(WriteError::Unknown(number)),
         Some(Control::Place(field, place)) => {
+            known.field = None;
             set_one(&field, place, setting.asked, number, bytes, marks)
         }
         Some(Control::Usage(field, usage)) => {
+            know(
+                known,
+                field.number,
+                &usages_of(descriptor, &field),
+                bytes,
+                marks,
+            );
             set_usage(
                 descriptor,
                 &field,
+                known,
+                least_of(&hints.ranges, usage),
                 usage,
                 setting.asked,
                 number,
