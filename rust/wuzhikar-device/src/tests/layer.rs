@@ -1,12 +1,10 @@
 //! The device layer before a keyboard on blank flash: here what the tests share, and packets in any order.
 
-mod keyboards;
 mod requests;
-mod states;
 mod transfers;
 
 use super::{Layouted, Other};
-use crate::{Change, DeviceLayer, Endpoint1, Endpoints, EpAnswer, Identity, Keys, PollAnswer, Product, Report, utf16};
+use crate::{Change, DeviceLayer, Endpoint1, Endpoints, EpAnswer, Identity, Keys, PollAnswer, Product, utf16};
 use wuzhikar::usb::{CONFIGURATION, ENDPOINT_1};
 use wuzhikar::{KeyboardOf, Scan, SimFlash, Standard, Work};
 
@@ -21,11 +19,8 @@ const IDENTITY: Identity = Identity {
 };
 
 const SET_ADDRESS_5: [u8; 8] = [0x00, 0x05, 5, 0, 0, 0, 0, 0];
-const SET_CONFIGURATION_0: [u8; 8] = [0x00, 0x09, 0, 0, 0, 0, 0, 0];
 const SET_CONFIGURATION_1: [u8; 8] = [0x00, 0x09, 1, 0, 0, 0, 0, 0];
-const SET_INTERFACE: [u8; 8] = [0x01, 0x0b, 0, 0, 0, 0, 0, 0];
 const SET_HALT: [u8; 8] = [0x02, 0x03, 0, 0, 0x81, 0, 0, 0];
-const CLEAR_HALT: [u8; 8] = [0x02, 0x01, 0, 0, 0x81, 0, 0, 0];
 const GET_STATUS: [u8; 8] = [0x80, 0x00, 0, 0, 0, 0, 2, 0];
 const GET_HALT: [u8; 8] = [0x82, 0x00, 0, 0, 0x81, 0, 2, 0];
 const GET_CONFIGURATION: [u8; 8] = [0x80, 0x08, 0, 0, 0, 0, 1, 0];
@@ -33,10 +28,6 @@ const GET_CONFIGURATION: [u8; 8] = [0x80, 0x08, 0, 0, 0, 0, 1, 0];
 /// A request of the keyboard with an effect, and the one that shows it: SET_PROTOCOL, GET_PROTOCOL.
 const SET_BOOT: [u8; 8] = [0x21, 0x0b, 0, 0, 0, 0, 0, 0];
 const GET_PROTOCOL: [u8; 8] = [0xa1, 0x03, 0, 0, 0, 0, 1, 0];
-
-/// Key 0 of layer 0 is a b: SET_REPORT of the feature report, and its packet.
-const SET_REPORT: [u8; 8] = [0x21, 0x09, 3, 3, 0, 0, 6, 0];
-const KEY_0_IS_B: [u8; 6] = [3, 1, 0, 0, 5, 0];
 
 const READY: Change = Change::Endpoint(Endpoint1::Ready);
 const STALL: EpAnswer = EpAnswer::Stall;
