@@ -468,6 +468,10 @@ int wz_store_length(const wz_flash *flash, uint16_t id);
 /* Writes the value of an id, and gives its length. WZ_ABSENT; WZ_ROOM, and nothing is written; WZ_DAMAGED. */
 int wz_store_get(const wz_flash *flash, uint16_t id, uint8_t *bytes, size_t room);
 
+/* Writes the ids that have a value, each once and in no order that is promised, and gives their number. WZ_ROOM where there are
+ * more; some are written then. */
+int wz_store_ids(const wz_flash *flash, uint16_t *ids, size_t room);
+
 /* Stores a value, and returns when it is stored; nothing is written where the id has it. Where the newest page is full, at most
  * N - 1 pages move, by an erase and up to 511 programs each. WZ_TOO_LONG, then WZ_FOREIGN, WZ_DAMAGED, WZ_FULL, WZ_WORN, WZ_FAULT:
  * all values are as before. */

@@ -63,6 +63,22 @@ pub extern "C" fn wz_store_get(flash: Given<Table>, id: u16, bytes: Output<u8>, 
 }
 
 #[unsafe(no_mangle)]
+pub extern "C" fn wz_store_ids(flash: Given<Table>, ids: Output<u16>, room: usize) -> c_int {
+    on(&flash, |store| {
+        let place = ids.room(room)?;
+        let mut count = 0;
+        for id in store.ids() {
+            if count >= room {
+                return Err(Status::Room);
+            }
+            place.set(count, id);
+            count += 1;
+        }
+        Ok(count as c_int)
+    })
+}
+
+#[unsafe(no_mangle)]
 pub extern "C" fn wz_store_set(flash: Given<Table>, id: u16, bytes: Input<u8>, length: usize) -> c_int {
     on(&flash, |store| stored(store.set(id, bytes_of(&bytes, length)?)))
 }

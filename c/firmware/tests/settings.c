@@ -62,6 +62,9 @@ static void stores_on_all_pages(void) {
     NEEDS(wz_store_length(&table, 0) == WZ_ABSENT && wz_store_length(&table, 1) == 4);
     NEEDS(wz_store_transaction(&table, migration, 3) == WZ_OK && wz_store_length(&table, 1) == WZ_ABSENT);
     NEEDS(wz_store_get(&table, 4, bytes, 4) == 4 && memcmp(bytes, "home", 4) == 0 && wz_store_get(&table, 3, bytes, 1) == 1 && *bytes == 199);
+    uint16_t ids[4];
+    NEEDS(wz_store_ids(&table, ids, 3) == WZ_ROOM && wz_store_ids(&table, ids, 4) == 4);
+    NEEDS(ids[0] + ids[1] + ids[2] + ids[3] == 0 + 2 + 3 + 4);
     NEEDS(wz_store_get(&table, 2, bytes, 899) == WZ_ROOM && wz_store_get(&table, 2, bytes, 900) == 900);
     NEEDS(memcmp(bytes, certificate, sizeof certificate) == 0 && wz_store_set(&table, 5, bytes, 1025) == WZ_TOO_LONG);
     NEEDS(wz_store_set(&table, 5, bytes, 1024) == WZ_FULL && wz_store_transaction(&table, migration, 17) == WZ_LENGTH);

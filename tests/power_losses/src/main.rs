@@ -36,14 +36,15 @@ fn lives_of(name: &str, losses: u64) -> Result<String, String> {
     match name {
         "log" => long_lives::<Log>(losses),
         "settings" => Ok(long_lives::<Settings<InRust>>(losses)? + &long_lives::<Settings<InC>>(losses.div_ceil(4))?),
-        "paged" => long_lives::<Paged>(losses),
+        "paged" => Ok(long_lives::<Paged<InRust>>(losses)? + &long_lives::<Paged<InC>>(losses.div_ceil(4))?),
         "keyboard" => {
             let half = losses.div_ceil(2);
             Ok(long_lives::<Keyboard<Standard>>(half)? + &long_lives::<Keyboard<Other>>(half)?)
         }
         "lives" => {
             let each = losses.div_ceil(5);
-            let kept = short_lives::<Log>(each)? + &short_lives::<Settings<InRust>>(each)? + &short_lives::<Paged>(each)?;
+            let kept =
+                short_lives::<Log>(each)? + &short_lives::<Settings<InRust>>(each)? + &short_lives::<Paged<InRust>>(each)?;
             Ok(short_lives::<Pages>(each)? + &kept + &short_lives::<Keyboard<Standard>>(each)?)
         }
         _ => Err(format!("{name:?} is no subject: log, settings, paged, keyboard, lives")),

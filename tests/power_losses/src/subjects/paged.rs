@@ -2,22 +2,80 @@
 //! Values of up to 1,024 bytes on all pages: changed one by one, and in transactions.
 
 use std::collections::BTreeMap;
+use std::marker::PhantomData;
 
 use wuzhikar_log::NorFlash;
 use wuzhikar_log::paged::{Change, PagedSettings, SettingsError};
 
-use super::Subject;
+use super::{InRust, Subject};
 use crate::random::Random;
 use crate::runner::{Broken, Stage};
 
 /// A new value for an id, or none.
-type Given = (u16, Option<Vec<u8>>);
+pub type Given = (u16, Option<Vec<u8>>);
+
+/// A way to call settings on all pages.
+pub trait PagedDoor {
+    /// What they are called.
+    const NAME: &'static str;
+    /// Settings on a flash.
+    type On<F: NorFlash>: PagedCalls<F>;
+}
+
+/// The calls of settings on all pages of a flash.
+pub trait PagedCalls<F>: Sized {
+    fn mount(flash: F) -> Self;
+    fn pages(&self) -> usize;
+    fn ids(&self) -> Vec<u16>;
+    fn read(&self, id: u16) -> Option<Vec<u8>>;
+    fn change(&mut self, changes: &[Given]) -> Result<(), SettingsError>;
+    fn into_flash(self) -> F;
+}
+
+impl PagedDoor for InRust {
+    const NAME: &'static str = "settings on all pages";
+    type On<F: NorFlash> = PagedSettings<F>;
+}
+
+impl<F: NorFlash> PagedCalls<F> for PagedSettings<F> {
+    fn mount(flash: F) -> Self {
+        PagedSettings::mount(flash).expect("2 to 8 pages")
+    }
+
+    fn pages(&self) -> usize {
+        self.flash().pages()
+    }
+
+    fn ids(&self) -> Vec<u16> {
+        PagedSettings::ids(self).collect()
+    }
+
+    fn read(&self, id: u16) -> Option<Vec<u8>> {
+        self.get(id, &mut [0; 1024]).expect("1,024 bytes").map(<[u8]>::to_vec)
+    }
+
+    fn change(&mut self, changes: &[Given]) -> Result<(), SettingsError> {
+        match changes {
+            [(id, Some(value))] => self.set(*id, value),
+            [(id, None)] => self.remove(*id),
+            changes => {
+                let lent: Vec<Change> = changes.iter().map(|(id, value)| Change { id: *id, value: value.as_deref() }).collect();
+                self.transaction(&lent)
+            }
+        }
+    }
+
+    fn into_flash(self) -> F {
+        PagedSettings::into_flash(self)
+    }
+}
 
 /// The most slots of a page that its values take.
 const ROOM: usize = 510;
 
 /// What every id has to have, and the changes that the latest loss of power came into.
-pub struct Paged {
+pub struct Paged<D = InRust> {
+    door: PhantomData<D>,
     stored: BTreeMap<u16, Vec<u8>>,
     under_way: Vec<Given>,
     /// How many ids are in use, and the most bytes that a value has.
@@ -40,15 +98,11 @@ fn apply(values: &mut BTreeMap<u16, Vec<u8>>, changes: &[Given]) {
     }
 }
 
-fn read<F: NorFlash>(settings: &PagedSettings<F>, id: u16) -> Option<Vec<u8>> {
-    settings.get(id, &mut [0; 1024]).expect("1,024 bytes").map(<[u8]>::to_vec)
-}
-
-impl Paged {
+impl<D: PagedDoor> Paged<D> {
     /// What a start finds: what was stored, or that with all changes that were under way.
-    fn starts<F: NorFlash>(&mut self, settings: &PagedSettings<F>) -> Result<(), Broken> {
-        let ids: Vec<u16> = settings.ids().collect();
-        let found: BTreeMap<u16, Vec<u8>> = ids.iter().filter_map(|&id| Some((id, read(settings, id)?))).collect();
+    fn starts<F: NorFlash>(&mut self, settings: &D::On<F>) -> Result<(), Broken> {
+        let ids = settings.ids();
+        let found: BTreeMap<u16, Vec<u8>> = ids.iter().filter_map(|&id| Some((id, settings.read(id)?))).collect();
         if found.len() != ids.len() {
             return Err(Broken::Wrong(format!("listed are {ids:?}")));
         }
@@ -58,7 +112,7 @@ impl Paged {
             return Err(Broken::Lost(format!("{found:?}, and {:?} was stored", self.stored)));
         }
         self.stored = found;
-        match (0..self.ids as u16).find(|&id| read(settings, id) != self.stored.get(&id).cloned()) {
+        match (0..self.ids as u16).find(|&id| settings.read(id) != self.stored.get(&id).cloned()) {
             Some(id) => Err(Broken::Wrong(format!("id {id} is not what is listed"))),
             None => Ok(()),
         }
@@ -79,18 +133,11 @@ impl Paged {
     }
 
     /// A change or a transaction, and what it answers.
-    fn change<F: NorFlash>(&mut self, settings: &mut PagedSettings<F>, stage: &mut Stage) -> Result<(), Broken> {
+    fn change<F: NorFlash>(&mut self, settings: &mut D::On<F>, stage: &mut Stage) -> Result<(), Broken> {
         let faults = stage.power.faults();
         let count = [2, 3, 5].get(stage.random.below(12)).copied().unwrap_or(1);
         let changes: Vec<Given> = (0..count).map(|_| self.draw(&mut stage.random)).collect();
-        let answer = match &changes[..] {
-            [(id, Some(value))] => settings.set(*id, value),
-            [(id, None)] => settings.remove(*id),
-            changes => {
-                let lent: Vec<Change> = changes.iter().map(|(id, value)| Change { id: *id, value: value.as_deref() }).collect();
-                settings.transaction(&lent)
-            }
-        };
+        let answer = settings.change(&changes);
         if stage.power.is_off() {
             self.under_way = changes;
             return Ok(());
@@ -101,13 +148,13 @@ impl Paged {
                 apply(&mut self.stored, &changes);
             }
             Err(SettingsError::Fault) if stage.power.faults() > faults => stage.tally.failed += 1,
-            Err(SettingsError::Full) if self.may_be_full(&changes, settings.flash().pages()) => {
+            Err(SettingsError::Full) if self.may_be_full(&changes, settings.pages()) => {
                 self.stored.keys().next().copied().map_or(Ok(()), |id| self.removed(settings, id, stage))?;
             }
             Err(error) => return Err(Broken::Refused(error.to_string())),
         }
         let id = changes[0].0;
-        if stage.power.is_off() || read(settings, id) == self.stored.get(&id).cloned() {
+        if stage.power.is_off() || settings.read(id) == self.stored.get(&id).cloned() {
             Ok(())
         } else {
             Err(Broken::Wrong(format!("id {id}")))
@@ -115,8 +162,8 @@ impl Paged {
     }
 
     /// Removes an id, for which there is always room.
-    fn removed<F: NorFlash>(&mut self, settings: &mut PagedSettings<F>, id: u16, stage: &mut Stage) -> Result<(), Broken> {
-        let answer = settings.remove(id);
+    fn removed<F: NorFlash>(&mut self, settings: &mut D::On<F>, id: u16, stage: &mut Stage) -> Result<(), Broken> {
+        let answer = settings.change(&[(id, None)]);
         if stage.power.is_off() {
             self.under_way = vec![(id, None)];
             return Ok(());
@@ -130,16 +177,16 @@ impl Paged {
     }
 }
 
-impl Subject for Paged {
-    const NAME: &'static str = "settings on all pages";
+impl<D: PagedDoor> Subject for Paged<D> {
+    const NAME: &'static str = D::NAME;
 
-    fn new(random: &mut Random) -> Paged {
+    fn new(random: &mut Random) -> Paged<D> {
         let (ids, most) = ([1, 4, 12, 60][random.below(4)], [12, 64, 64, 1024][random.below(4)]);
-        Paged { stored: BTreeMap::new(), under_way: Vec::new(), ids, most }
+        Paged { door: PhantomData, stored: BTreeMap::new(), under_way: Vec::new(), ids, most }
     }
 
     fn session<F: NorFlash>(&mut self, flash: F, stage: &mut Stage) -> Result<F, Broken> {
-        let mut settings = PagedSettings::mount(flash).expect("2 to 8 pages");
+        let mut settings = D::On::mount(flash);
         self.starts(&settings)?;
         while !stage.power.is_off() {
             self.change(&mut settings, stage)?;

@@ -8,8 +8,9 @@ use std::ptr::null;
 use std::rc::Rc;
 
 use in_c as _;
-use wuzhikar_log::{Change, NorFlash, SLOT_BYTES, SettingsError};
+use wuzhikar_log::{Change, NorFlash, SLOT_BYTES, SettingsError, paged};
 
+use super::paged::{Given as Gift, PagedCalls, PagedDoor};
 use super::settings::{Calls, Door, Values};
 
 /// WZ_SETTINGS_BYTES and WZ_CHANGE_BYTES, in words.
@@ -47,6 +48,11 @@ unsafe extern "C" {
     fn wz_settings_remove(settings: *mut Memory, id: u16) -> c_int;
     fn wz_settings_transaction(settings: *mut Memory, changes: *const Given, count: usize, memory: *mut ChangeMemory) -> c_int;
     fn wz_settings_compact(settings: *mut Memory) -> c_int;
+    fn wz_store_get(flash: *const Table, id: u16, bytes: *mut u8, room: usize) -> c_int;
+    fn wz_store_ids(flash: *const Table, ids: *mut u16, room: usize) -> c_int;
+    fn wz_store_set(flash: *const Table, id: u16, bytes: *const u8, length: usize) -> c_int;
+    fn wz_store_remove(flash: *const Table, id: u16) -> c_int;
+    fn wz_store_transaction(flash: *const Table, changes: *const Given, count: usize) -> c_int;
 }
 
 /// The flash that a context leads to.
@@ -76,6 +82,17 @@ extern "C" fn program_slot<F: NorFlash>(context: *mut c_void, page: usize, slot:
 extern "C" fn erase_page<F: NorFlash>(context: *mut c_void, page: usize) -> c_int {
     // SAFETY: the library calls with the context.
     unsafe { flash_of::<F>(context) }.borrow_mut().erase_page(page).is_err().into()
+}
+
+/// The functions that lead to a flash.
+fn table_of<F: NorFlash>(flash: &Rc<RefCell<F>>, pages: usize) -> Table {
+    Table {
+        context: Rc::as_ptr(flash).cast_mut().cast(),
+        pages,
+        read_slot: read_slot::<F>,
+        program_slot: program_slot::<F>,
+        erase_page: erase_page::<F>,
+    }
 }
 
 /// The calls of C.
@@ -110,13 +127,7 @@ impl<F: NorFlash> Calls<F> for OverC<F> {
     fn mount(flash: F) -> Self {
         let pages = flash.pages();
         let (flash, mut memory) = (Rc::new(RefCell::new(flash)), Box::new([0; 15]));
-        let table = Table {
-            context: Rc::as_ptr(&flash).cast_mut().cast(),
-            pages,
-            read_slot: read_slot::<F>,
-            program_slot: program_slot::<F>,
-            erase_page: erase_page::<F>,
-        };
+        let table = table_of(&flash, pages);
         // SAFETY: the memory is zeros, has the header's size and stays where it is; its flash lives beside it.
         assert_eq!(unsafe { wz_settings_start(&raw mut *memory, &raw const table) }, 0, "2 to 8 pages");
         OverC { flash, memory }
@@ -163,6 +174,87 @@ impl<F: NorFlash> Calls<F> for OverC<F> {
                         .collect();
                     let mut lent: Vec<ChangeMemory> = vec![[0; 9]; given.len()];
                     wz_settings_transaction(memory, given.as_ptr(), given.len(), lent.as_mut_ptr())
+                }
+            }
+        })
+    }
+
+    fn into_flash(self) -> F {
+        Rc::into_inner(self.flash).expect("held here alone").into_inner()
+    }
+}
+
+impl PagedDoor for InC {
+    const NAME: &'static str = "settings on all pages in C";
+    type On<F: NorFlash> = PagedOverC<F>;
+}
+
+/// The flash that the functions of a table lead to.
+pub struct PagedOverC<F> {
+    flash: Rc<RefCell<F>>,
+    table: Table,
+}
+
+/// What a call answered.
+fn paged_answer(status: c_int) -> Result<(), paged::SettingsError> {
+    match status {
+        0 => Ok(()),
+        -17 => Err(paged::SettingsError::Worn),
+        -18 => Err(paged::SettingsError::Fault),
+        -19 => Err(paged::SettingsError::TooLong),
+        -20 => Err(paged::SettingsError::Full),
+        -21 => Err(paged::SettingsError::Foreign),
+        -22 => Err(paged::SettingsError::Damaged),
+        other => panic!("a call answers {other}"),
+    }
+}
+
+impl<F: NorFlash> PagedCalls<F> for PagedOverC<F> {
+    fn mount(flash: F) -> Self {
+        let pages = flash.pages();
+        let flash = Rc::new(RefCell::new(flash));
+        PagedOverC { table: table_of(&flash, pages), flash }
+    }
+
+    fn pages(&self) -> usize {
+        self.table.pages
+    }
+
+    fn ids(&self) -> Vec<u16> {
+        let mut ids = vec![0; 4096];
+        // SAFETY: the flash of the table lives beside it; there is room for as many ids.
+        let count = unsafe { wz_store_ids(&raw const self.table, ids.as_mut_ptr(), ids.len()) };
+        ids.truncate(usize::try_from(count).expect("fewer ids"));
+        ids
+    }
+
+    fn read(&self, id: u16) -> Option<Vec<u8>> {
+        let mut bytes = vec![0; 1024];
+        // SAFETY: as above, and there is room for 1,024 bytes.
+        let length = match unsafe { wz_store_get(&raw const self.table, id, bytes.as_mut_ptr(), bytes.len()) } {
+            ABSENT => return None,
+            length => usize::try_from(length).expect("a length"),
+        };
+        bytes.truncate(length);
+        Some(bytes)
+    }
+
+    fn change(&mut self, changes: &[Gift]) -> Result<(), paged::SettingsError> {
+        let table = &raw const self.table;
+        // SAFETY: as above, and the values are those of `changes`, which stand beside it.
+        paged_answer(unsafe {
+            match changes {
+                [(id, Some(value))] => wz_store_set(table, *id, value.as_ptr(), value.len()),
+                [(id, None)] => wz_store_remove(table, *id),
+                changes => {
+                    let given: Vec<Given> = changes
+                        .iter()
+                        .map(|(id, value)| match value {
+                            Some(value) => Given { bytes: value.as_ptr(), id: *id, length: value.len() as u16 },
+                            None => Given { bytes: null(), id: *id, length: REMOVE },
+                        })
+                        .collect();
+                    wz_store_transaction(table, given.as_ptr(), given.len())
                 }
             }
         })
