@@ -2,11 +2,12 @@
 
 A plugin of QEMU (switch.c) is the power switch: it counts instructions, tears the operation of the flash that a cut falls into,
 and fills the RAM with noise at each start. A program (src) is the host: after each cut it compares all 384 entries of the keymap
-with what it was told. Both main loops of the firmware are tried, and the one asked at the token on a flash with error correction: a
-session that is told, cuts at instructions of a session with one command, cuts in operations of a compaction with its erase and in the
-words of a record, and random sessions, also with other default codes. A chip that owes an answer is silent by its own time, which
-stands still while the host has no processor for QEMU. Calls are compared with bench/chip.tsv. A stock Linux, a BIOS and UEFI type on
-both loops (hosts.py). Faults are planted, and each has to be found (faults.py).
+with what it was told. Both main loops of the firmware are tried, and the one asked at the token on a flash with error correction
+and on one whose torn cells waver: a session that is told, cuts at instructions of a session with one command, cuts in operations of
+a compaction with its erase and in the words of a record, and random sessions, also with other default codes; where cells waver,
+cuts in the starts behind a torn command. A chip that owes an answer is silent by its own time, which stands still while the host
+has no processor for QEMU. Calls are compared with bench/chip.tsv. A stock Linux, a BIOS and UEFI type on both loops (hosts.py).
+Faults are planted, and each has to be found (faults.py).
 
 Without a word a stride is taken over instructions and operations, and all takes a minute or two on four processors. The least always
 runs, whatever time it takes: a session, cuts of each kind and a planted fault, of the first firmware. What is not reached in the five

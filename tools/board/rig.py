@@ -22,7 +22,8 @@ TARGET = "thumbv6m-none-eabi"
 PROGRAMS = {"rustc": "rustc-web", "cargo": "cargo-web", "cc": "gcc", "ld.lld": "lld", "qemu-system-arm": "qemu-system-arm"}
 LOOPS = {"asked at the token": "", "with buffers": "buffers"}
 # Each is cut and measured. The features of a firmware by its name.
-FIRMWARES = LOOPS | {"error correction": "ecc"}
+WAVERING = {"cells that waver": "steady"}
+FIRMWARES = LOOPS | {"error correction": "ecc"} | WAVERING
 # The firmware in C over c/firmware, with buffers.
 IN_C = {"in C": "c"}
 WITH_BUFFERS = ("with buffers", *IN_C)

@@ -5,6 +5,9 @@
 // At the start the rig sends a struct order and the bytes of the log's region; at a cut it gets a struct told and these bytes, resets
 // the machine while the processor is held, and answers one byte. What the processor does until the reset takes effect is undone:
 // the region is the rig's at each start, and the RAM begins as noise.
+//
+// Where the log has marks, its flash is a nastier one: an erase programs all cells first, and cells of a torn operation are in doubt.
+// Each look at one reads anything, until it is erased or programmed to 0.
 #include <fcntl.h>
 #include <signal.h>
 #include <stdbool.h>
@@ -36,7 +39,7 @@ extern void qemu_plugin_register_vcpu_mem_cb(struct qemu_plugin_insn *, void (*)
 extern bool qemu_plugin_mem_is_store(qemu_plugin_meminfo_t);
 extern void *qemu_plugin_get_hwaddr(qemu_plugin_meminfo_t, uint64_t);
 
-enum { FLASH = 256 * 1024, REGION = 32 * 1024, FIRST = FLASH - REGION, UNIT = 1024 };
+enum { FLASH = 256 * 1024, REGION = 32 * 1024, FIRST = FLASH - REGION, UNIT = 1024, PAGE = 4096 };
 static const uint64_t RAM = 0x20000000, RAM_BYTES = 16 * 1024, FLASH_READY = 0x4001E400, FLASH_CONFIG = 0x4001E504, ERASE_PAGE = 0x4001E508,
     RX_READY = 0x40002108;
 
@@ -47,6 +50,8 @@ struct order { // where the power goes
     uint32_t undone;    // of 256: how many of an operation's bits are left undone; above 256 drawn
     uint32_t program_ticks, erase_ticks;
     uint32_t ram;       // 1: the RAM begins as noise
+    uint32_t firm;      // 1: the region is another one, no cell of which is in doubt
+    uint32_t unused;
 };
 
 struct told {
@@ -64,22 +69,29 @@ static volatile uint64_t *ordered; // behind it: how many orders the rig has sen
 static uint64_t heard;
 static const char *program;
 static uint8_t *flash, *ram;
-static uint8_t shadow[FLASH], writes[FLASH / 4];
+static uint8_t shadow[FLASH], writes[FLASH / 4], doubt[FLASH];
 static uint64_t reset_at, bss_end, log_bytes;
 static struct order order;
 static struct told told;
 static bool dead = true;
+// The flash controller was opened for an operation, and not closed.
+static bool open_now;
 // Behind an operation the flash is busy until the firmware asks whether it is: QEMU's is always ready then.
 static bool busy;
 static uint64_t lowest = RAM_BYTES, looked;
-static uint64_t noise = 88172645463325252u;
+static uint64_t noise = 88172645463325252u, readings = 88172645463325252u; // that of cells in doubt begins with no start anew
+
+static uint64_t draw_from(uint64_t *from)
+{
+    *from ^= *from << 13;
+    *from ^= *from >> 7;
+    *from ^= *from << 17;
+    return *from;
+}
 
 static uint64_t draw(void)
 {
-    noise ^= noise << 13;
-    noise ^= noise >> 7;
-    noise ^= noise << 17;
-    return noise;
+    return draw_from(&noise);
 }
 
 static void give(const void *bytes, size_t length)
@@ -109,6 +121,34 @@ static uint32_t word_at(const uint8_t *bytes)
     return word;
 }
 
+// The bytes of the marks, which stand behind the pages; where there are any, cells waver.
+static uint64_t marks(void)
+{
+    return log_bytes % PAGE;
+}
+
+// Cells in doubt read anew.
+static void waver(size_t from, size_t length)
+{
+    for (size_t at = from; at < from + length; at++)
+        if (doubt[at]) shadow[at] = flash[at] = (uint8_t)((flash[at] & ~doubt[at]) | (draw_from(&readings) >> 32 & doubt[at]));
+}
+
+// The processor sets the mode of the controller. An erase is seen by what it changes: before it, a unit with cells in doubt is not
+// blank. Behind it they waver again.
+static void set_mode(void)
+{
+    open_now = !open_now;
+    for (size_t unit = FLASH - log_bytes; marks() && unit < FLASH; unit += UNIT) {
+        if (!open_now) waver(unit, UNIT);
+        for (size_t at = unit; open_now && at < unit + UNIT; at++)
+            if (doubt[at]) {
+                shadow[at] = flash[at] = (uint8_t)(flash[at] & ~doubt[at]);
+                break;
+            }
+    }
+}
+
 static void tell(uint64_t kind)
 {
     told.kind = kind;
@@ -126,12 +166,14 @@ static void start(unsigned cpu, void *data)
     get(flash + FIRST, REGION);
     memcpy(shadow, flash, FLASH);
     memset(writes, 0, sizeof writes);
+    if (order.firm) memset(doubt, 0, sizeof doubt);
     noise = order.seed * 2654435761u + 88172645463325252u;
+    waver(FIRST, REGION);
     for (uint64_t at = 0; ram && order.ram && at < RAM_BYTES; at++) ram[at] = (uint8_t)(draw() >> 32);
     memset(&told, 0, sizeof told);
     lowest = RAM_BYTES;
     looked = 0;
-    busy = dead = false;
+    busy = dead = open_now = false;
 }
 
 static void cut(uint64_t inside)
@@ -164,6 +206,22 @@ static void tear(size_t from, size_t length, uint32_t undone)
             if ((draw() >> 40) % 256 < undone) flash[at] = (uint8_t)((flash[at] & ~bit) | (shadow[at] & bit));
 }
 
+// The same where cells waver: an erase that is torn while it programs sets none, and a later one has programmed all. Half of the
+// cells that change are in doubt, or less.
+static void tear_wavering(size_t from, size_t length, uint32_t undone, bool erases)
+{
+    bool programs = erases && draw() % 2;
+    uint32_t unsure = 128u >> (draw() >> 40) % 5;
+    for (size_t at = from; at < from + length; at++)
+        for (int bit = 1; bit < 256; bit <<= 1) {
+            bool before = erases && !programs ? false : shadow[at] & bit, after = programs ? false : flash[at] & bit;
+            bool is_left = before != after && (draw() >> 40) % 256 < undone;
+            if (before != after && (draw() >> 40) % 256 < unsure) doubt[at] |= (uint8_t)bit;
+            else if (before != after) doubt[at] &= (uint8_t)~bit;
+            flash[at] = (uint8_t)((flash[at] & ~bit) | ((is_left ? before : after) ? bit : 0));
+        }
+}
+
 // Takes another order that came meanwhile, which counts from here on.
 static void hear(void)
 {
@@ -171,6 +229,7 @@ static void hear(void)
     heard++;
     get(&order, sizeof order);
     if (order.operation) order.operation += told.operations;
+    if (order.tick != UINT64_MAX) order.tick += told.ticks;
     told.longest = 0;
 }
 
@@ -191,9 +250,13 @@ static void operated(size_t from, size_t length, uint32_t takes, uint64_t inside
     told.ticks += takes;
     *ticks += takes;
     if (told.operations == order.operation || (began <= order.tick && order.tick < told.ticks)) {
-        tear(from, length, order.undone > 256 ? draw() % 257 : order.undone);
+        uint32_t undone = order.undone > 256 ? draw() % 257 : order.undone;
+        if (marks()) tear_wavering(from, length, undone, inside == 2);
+        else tear(from, length, undone);
         cut(inside);
     }
+    // A whole operation ends the doubt: an erase of all cells, a program of those that it clears.
+    for (size_t at = from; at < from + length; at++) doubt[at] &= inside == 2 ? 0 : flash[at];
     memcpy(shadow + from, flash + from, length);
     busy = true;
 }
@@ -201,7 +264,8 @@ static void operated(size_t from, size_t length, uint32_t takes, uint64_t inside
 static void programmed(uint64_t address)
 {
     if (address < FLASH - log_bytes) told.outside++;
-    if (word_at(shadow + address) != UINT32_MAX) told.not_blank++;
+    // (A mark may be programmed again, with the same bits.)
+    if (word_at(shadow + address) != UINT32_MAX && address < FLASH - marks()) told.not_blank++;
     if (++writes[address / 4] > 2) told.often++;
     operated(address, 4, order.program_ticks, 1);
 }
@@ -223,6 +287,7 @@ static void stored(unsigned cpu, qemu_plugin_meminfo_t info, uint64_t address, v
     (void)cpu, (void)data;
     if (!dead && busy && (address - FLASH_CONFIG < 8 || (address >= FLASH - log_bytes && address < FLASH))) told.busy++;
     if (!qemu_plugin_mem_is_store(info)) {
+        if (!dead && address >= FLASH - log_bytes && address < FLASH) waver(address & ~3u, 4);
         if (address == FLASH_READY) busy = false;
         if (address == RX_READY && !dead) look();
         return;
@@ -238,6 +303,7 @@ static void stored(unsigned cpu, qemu_plugin_meminfo_t info, uint64_t address, v
     if (dead) return;
     if (address < FLASH) programmed(address & ~3u);
     else if (address == ERASE_PAGE) erased();
+    else if (address == FLASH_CONFIG) set_mode();
     else if (address - RAM < RAM_BYTES && address >= bss_end && address - RAM < lowest) lowest = address - RAM;
 }
 

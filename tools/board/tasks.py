@@ -5,7 +5,7 @@ from typing import Callable, NamedTuple
 from faults import FAULTS, HARMLESS, is_found, plant
 from hosts import MISSING, Hosts
 from processes import Over
-from rig import FIRMWARES, LOOPS, OTHER, ROOT, WITH_BUFFERS, NoTime, say
+from rig import FIRMWARES, LOOPS, OTHER, ROOT, WAVERING, WITH_BUFFERS, NoTime, say
 from room import Failed
 
 CALLS = f"{ROOT}/bench/chip.tsv"
@@ -87,8 +87,9 @@ def session(bench, name, features):
 
 def cuts(features, seed):
     """The words of the tests that cut a firmware by a stride, and the seconds of each."""
-    # With error correction an operation of the log is six of the flash, and a start takes five times as long.
-    strides = ["7993", "307"] if features == "ecc" else ["1597", "53"]
+    # With error correction an operation of the log is six of the flash, and a start takes five times as long. Where cells waver
+    # pages are moved besides.
+    strides = {"ecc": ["7993", "307"], "steady": ["15991", "307"]}.get(features, ["1597", "53"])
     return [["instructions", strides[0]], ["operations", strides[1]], ["words", "8", "1"], ["random", "300", str(seed)]]
 
 
@@ -129,6 +130,7 @@ def cut_tasks(bench, seed):
     tasks += [Task(f"{first}: starved", 25, told(first, FIRMWARES[first], ["starved"]))]
     tasks += [Task(f"{name}: armed", 5, told(name, features, ["armed"])) for name, features in bench.firmwares.items() if name in WITH_BUFFERS]
     tasks += [Task(f"{name}: random cuts", 25, told(name, features, ["layout", "300", str(seed)])) for name, features in OTHER.items()]
+    tasks += [Task(f"{name}: cut starts", 25, told(name, features, ["starts", "300", str(seed)])) for name, features in WAVERING.items()]
     rows = [(name, features, cuts(features, seed)) for name, features in bench.firmwares.items()]
     tasks += [Task(f"{name}: {' '.join(words[at])}", 25, told(name, features, words[at]), name == first)
               for at in range(4) for name, features, words in rows]

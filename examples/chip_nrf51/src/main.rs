@@ -24,9 +24,11 @@ mod buffers;
 mod ecc;
 mod frames;
 mod nvmc;
-#[cfg(not(feature = "ecc"))]
+#[cfg(not(any(feature = "ecc", feature = "steady")))]
 mod plain;
 mod registers;
+#[cfg(feature = "steady")]
+mod steady;
 #[cfg(not(feature = "buffers"))]
 mod token;
 mod uart;
@@ -38,8 +40,10 @@ use core::panic::PanicInfo;
 #[cfg(feature = "ecc")]
 use ecc as pages;
 use frames::Frame;
-#[cfg(not(feature = "ecc"))]
+#[cfg(not(any(feature = "ecc", feature = "steady")))]
 use plain as pages;
+#[cfg(feature = "steady")]
+use steady as pages;
 #[cfg(not(feature = "buffers"))]
 use token as main_loop;
 use uart::Uart;

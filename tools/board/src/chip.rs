@@ -104,6 +104,8 @@ pub struct Chip {
     held: bool,
     /// Whether the chip has a flash that the rig does not know.
     on: bool,
+    /// Whether another flash was put in since the power went.
+    put: bool,
 }
 
 impl Chip {
@@ -111,7 +113,7 @@ impl Chip {
     pub fn new(program: &[u8], plugin: &Path, folder: &Path) -> Result<Chip> {
         let (machine, uart, switch) = Machine::start(program, plugin, folder)?;
         let (flash, told, waits) = (Vec::new(), Told::default(), Waits::default());
-        let mut chip = Chip { machine, uart, switch, flash, told, waits, came: Vec::new(), held: false, on: false };
+        let mut chip = Chip { machine, uart, switch, flash, told, waits, came: Vec::new(), held: false, on: false, put: true };
         chip.hear_switch()?;
         std::fs::remove_dir_all(folder)?;
         chip.flash = vec![BESIDE; REGION];
@@ -247,16 +249,23 @@ impl Chip {
         REGION - self.told.log as usize
     }
 
-    /// Whether the flash has error correction.
+    /// Whether the flash has error correction: two units for each slot, and the checks of each.
     pub fn corrects(&self) -> bool {
-        self.told.log as usize > LOG
+        self.told.log as usize == 3 * LOG
     }
 
-    /// Puts these slots into the log's pages while the power is off.
+    /// Whether it has marks behind its pages, so that cells of a torn operation waver, and a start writes.
+    pub fn wavers(&self) -> bool {
+        self.told.log as usize % (LOG / 2) != 0
+    }
+
+    /// Puts these slots into the log's pages while the power is off. What stands behind them is erased.
     pub fn put(&mut self, slots: &[u8]) {
         let from = self.log();
         let bytes = if self.corrects() { ecc::units(slots) } else { slots.to_vec() };
-        self.flash[from..].copy_from_slice(&bytes);
+        self.flash[from..].fill(0xff);
+        self.flash[from..][..bytes.len()].copy_from_slice(&bytes);
+        self.put = true;
     }
 
     /// What the switch told at the cut: whether the firmware broke a rule of the flash.
@@ -279,14 +288,14 @@ impl Chip {
             return Err(Error::other("the switch has not told a start"));
         }
         self.on = true;
-        let mut bytes = order.bytes();
+        let mut bytes = order.bytes(std::mem::take(&mut self.put));
         bytes.extend(&self.flash);
         self.switch.write_all(&bytes)
     }
 
-    /// Orders a cut while the chip runs: its operation is counted from here on.
+    /// Orders a cut while the chip runs: its operation and its tick are counted from here on.
     pub fn order(&mut self, order: Order) -> Result<()> {
-        self.switch.write_all(&order.bytes())?;
+        self.switch.write_all(&order.bytes(false))?;
         self.machine.announce()
     }
 
@@ -320,12 +329,13 @@ impl Chip {
 }
 
 impl Order {
-    fn bytes(&self) -> Vec<u8> {
+    /// The bytes for the switch; `firm` where no cell of the flash is in doubt.
+    fn bytes(&self, firm: bool) -> Vec<u8> {
         let mut bytes = Vec::new();
         for number in [self.tick, self.operation, self.seed] {
             bytes.extend(number.to_le_bytes());
         }
-        for number in [self.undone, self.takes[0], self.takes[1], self.noise.into()] {
+        for number in [self.undone, self.takes[0], self.takes[1], self.noise.into(), firm.into(), 0] {
             bytes.extend(number.to_le_bytes());
         }
         bytes

@@ -194,9 +194,10 @@ pub fn operations_of(shop: &Shop, from: u64, to: u64) -> Answer<()> {
 
 /// So many tears of each word of a record, in three ways, drawn from seeds that follow this one.
 pub fn words(shop: &Shop, tears: u64, seed: u64) -> Answer<()> {
-    // With error correction two units are programmed, each with its checks.
+    // With error correction two units are programmed, each with its checks. They are the session's last operations.
     let count = if shop.chip()?.corrects() { 6 } else { 2 };
-    let orders = (1..=count).flat_map(word_orders);
+    let (_, _, all) = with_room().length(shop, Order::NEVER)?;
+    let orders = (all + 1 - count..=all).flat_map(word_orders);
     let seeded = orders.flat_map(|order| (seed..seed + tears).map(move |seed| Order { seed, ..order }));
     with_room().cut_at_each(shop, "the words of a record", seeded.collect())?.met()
 }

@@ -10,6 +10,7 @@
 //! - `words TEARS SEED`: so many tears of each word of a record that leave few bits undone, in three ways
 //! - `random CUTS SEED`: so many sessions with one cut each
 //! - `layout CUTS SEED`: the same of a firmware whose default codes are those of rust/tests/src/other.rs
+//! - `starts LIVES SEED`: so many commands that are cut inside an operation, with cuts inside the starts behind it
 //! - `lengths`: the instructions of the one session, and the operations of the other
 //! - `measure`: the most instructions that calls take, a row each, and the deepest stack
 //! - `host WORDS ..`: the chip in place of the keyboard of tests/real_host, with the words of its program
@@ -28,6 +29,7 @@ mod other;
 mod random;
 mod session;
 mod silence;
+mod starts;
 
 use chip::{Chip, Lost};
 use other::Other;
@@ -72,6 +74,7 @@ fn main() -> Result<ExitCode, Box<dyn std::error::Error>> {
         ("operations", [from, to]) => every::operations_of(&shop, *from, *to),
         ("words", [tears, seed]) => every::words(&shop, *tears, *seed),
         ("random", [cuts, seed]) => random::run(&shop, *cuts, *seed, &model::default_keymap()),
+        ("starts", [lives, seed]) => starts::run(&shop, *lives, *seed),
         ("layout", [cuts, seed]) => random::run(&shop, *cuts, *seed, Other::CODES),
         _ => return Err("these are not the words of what it does: src/main.rs has them".into()),
     };

@@ -45,11 +45,16 @@ impl Session<'_> {
         Session { defaults, keymap, pending: None, unknown, started: false }
     }
 
-    /// A start, and requests until the power goes, which is `Cut`.
-    fn run(&mut self, chip: &mut Chip, numbers: &mut Numbers, counts: &mut Counts) -> Answer<()> {
+    /// A start, and requests until the power goes, which is `Cut`. It goes as ordered, counted from the end of the start where that
+    /// is `later`.
+    fn run(&mut self, chip: &mut Chip, numbers: &mut Numbers, counts: &mut Counts, order: Order, later: bool) -> Answer<()> {
         self.started = false;
+        chip.power(if later { Order::NEVER } else { order })?;
         host::start(chip)?;
         self.started = true;
+        if later {
+            chip.order(order)?;
+        }
         self.compare(chip, counts)?;
         host::enumerate(chip)?;
         let mut refused = 0;
@@ -163,8 +168,10 @@ pub fn run(shop: &Shop, cuts: u64, seed: u64, defaults: &Keymap) -> Answer<()> {
         if near {
             session = another(&mut chip, &mut numbers, &mut counts, defaults);
         }
-        chip.power(order(&mut numbers, near))?;
-        match session.run(&mut chip, &mut numbers, &mut counts) {
+        let order = order(&mut numbers, near);
+        // (A start that writes takes longer than all that follows.)
+        let later = chip.wavers() && numbers.below(4) > 0;
+        match session.run(&mut chip, &mut numbers, &mut counts, order, later) {
             Ok(()) | Err(Lost::Cut) => {}
             Err(Lost::Dead(why)) => return Err(Lost::Dead(format!("after cut {}: {why}", counts.cuts))),
             Err(lost) => return Err(lost),
