@@ -16,11 +16,15 @@ def followed(programs):
     return [name for name in EVERY if name != "keymap_file" or "keymap" in programs]
 
 
-def expected(text, size):
-    """The lines that Linux has to print when it follows a list, for packets of this size: all but comments and empty lines. SIZE
-    is replaced by the size, as sysfs has it."""
+# The keyboard as a function in Rust, which has no device layer of its own: what that gives is marked in the lists.
+WITHOUT_LAYER, LAYER = "real_host", "layer: "
+
+
+def expected(text, size, has_layer=True):
+    """The lines that Linux has to print when it follows a list, for packets of this size: all but comments, empty lines, and without
+    the device layer those that it gives. SIZE is replaced by the size, as sysfs has it."""
     lines = [line for line in text.replace("SIZE", f"{size:04x}").splitlines() if line and not line.startswith("#")]
-    return lines
+    return [line.removeprefix(LAYER) for line in lines if has_layer or not line.startswith(LAYER)]
 
 
 def sections(said):
@@ -46,7 +50,7 @@ def compared(name, serial, size, found):
     """The lines in which what was said of a list on a keyboard is otherwise. One that counts no waits says so with a dash."""
     said = found.get((name, serial), [])
     with open(f"{FILES}/lists/{name}", encoding="utf-8") as file:
-        wanted = expected(file.read(), size)
+        wanted = expected(file.read(), size, serial != WITHOUT_LAYER)
     if "waits -" in said:
         wanted = [re.sub(r"^waits \d+$", "waits -", line) for line in wanted]
     lines = differences(wanted, said)
