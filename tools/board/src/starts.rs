@@ -29,8 +29,8 @@ fn found(chip: &mut Chip) -> Answer<Keymap> {
     host::keymap(chip)
 }
 
-/// A life: whether a start was cut in it.
-fn life(chip: &mut Chip, numbers: &mut Numbers, defaults: &Keymap) -> Answer<bool> {
+/// A life: whether the command was cut in it, and whether a start behind it.
+fn life(chip: &mut Chip, numbers: &mut Numbers, defaults: &Keymap) -> Answer<[bool; 2]> {
     // The record alone is torn, or any operation of a compaction.
     let (full, command) = (numbers.below(4) == 0, numbers.set());
     let records = if full { 511 } else { numbers.below(4) as usize };
@@ -39,12 +39,11 @@ fn life(chip: &mut Chip, numbers: &mut Numbers, defaults: &Keymap) -> Answer<boo
     chip.put(&flash);
     found(chip)?;
     chip.order(torn(numbers, if full { &[850] } else { &[2] }))?;
-    is_cut(host::command(chip, command))?;
-    let mut cut = false;
+    let mut cut = [is_cut(host::command(chip, command))?, false];
     for _ in 0..numbers.below(8) {
         chip.cut()?;
         chip.power(torn(numbers, if full { &[40, 1200] } else { &[6, 12, 24, 48] }))?;
-        cut |= is_cut(host::start(chip))?;
+        cut[1] |= is_cut(host::start(chip))?;
     }
     chip.cut()?;
     let first = found(chip)?;
@@ -69,16 +68,22 @@ fn life(chip: &mut Chip, numbers: &mut Numbers, defaults: &Keymap) -> Answer<boo
 
 /// So many lives.
 pub fn run(shop: &Shop, lives: u64, seed: u64) -> Answer<()> {
-    let (mut chip, mut numbers, mut cut) = (shop.chip()?, Numbers::new(seed), 0);
+    let (mut chip, mut numbers, mut cut) = (shop.chip()?, Numbers::new(seed), [0; 2]);
     for at in 0..lives {
         match life(&mut chip, &mut numbers, &model::default_keymap()) {
-            Ok(was_cut) => cut += u64::from(was_cut),
+            Ok(was_cut) => (0..2).for_each(|what| cut[what] += u64::from(was_cut[what])),
             Err(Lost::Dead(why)) => return Err(Lost::Dead(format!("in life {at}: {why}"))),
             Err(lost) => return Err(lost),
         }
     }
+    let [commands, starts] = cut;
+    if commands == 0 || starts == 0 {
+        return Err(Lost::Dead(format!(
+            "in {lives} lives {commands} commands were cut, and starts in {starts}: nothing was tried"
+        )));
+    }
     println!(
-        "{lives} commands cut inside an operation, {cut} of them with starts that were cut behind it: acknowledged assignments lost 0"
+        "{lives} lives, {commands} with a command cut inside an operation, {starts} with starts cut: acknowledged assignments lost 0"
     );
     println!("{}", chip.waits);
     Ok(())
