@@ -1,3 +1,4 @@
+use Rattle.std.proofs.lemmas.Grind.{common_steps}
 use Rattle.std.proofs.Common.{◌≡◌, ℕ, ◌+◌, ◌-◌, ◌*◌, ◌<◌, ◌≤◌, ◌^◌, ◌==◌, suc, zero, Bool, true, false, List, [], ◌∷◌, length, get_or, drop, map, arith, lit<, ◌++◌, sym, ◌∙◌, ap, refl, bit_and, bit_xor, w32, eqb, cond, if◌then◌else◌, ◌&&◌, inl, inr, zero-add}
 use Rattle.std.specs.Int.{bit_at}
 use Rattle.std.proofs.lemmas.Simd.{bit_mask_l, mask_l-lt, get_or_wider, get_or-chunk}
@@ -12,7 +13,7 @@ use Rattle.records.specs.declared.Slot.{Slot}
 use Rattle.std.specs.Simd.Lanes.{zip2, pick_l, chunk, digits_l, number_l, mask_l, Each1}
 use Rattle.std.proofs.lemmas.Simd.{pick_l_left, pick_l-range_with_len, length-chunk, length-zip2, get_or-zip2}
 use Rattle.std.specs.List.{range_with_len}
-use Rattle.std.proofs.lemmas.Bool.{cases_lt}
+use Rattle.std.proofs.lemmas.Bool.{cases_lt, ne_eqb}
 use Rattle.records.specs.declared.Slot.TheVariants.{Free, Good, Spoiled}
 use Rattle.records.proofs.SlotLemmas.{first_is, second_is}
 
@@ -35,10 +36,7 @@ complement_xor w c lw e =
 
 -- and both are all ones where their AND is
 and_ones : (w c : ℕ) → w < 2 ^ 32 → c < 2 ^ 32 → bit_and w c ≡ 2 ^ 32 - 1 → (w ≡ 2 ^ 32 - 1) × (c ≡ 2 ^ 32 - 1)
-and_ones w c lw lc e =
-    let a = and_le_l w c in
-    let b : bit_and w c ≤ c = omega (arith, and_comm w c, and_le_l c w) in
-    (omega arith, omega arith)
+and_ones w c h1 h2 h3 = grind (arith, common_steps, and_le_l, and_comm)
 
 ones_and_ones : bit_and (2 ^ 32 - 1) (2 ^ 32 - 1) ≡ 2 ^ 32 - 1
 ones_and_ones = refl
@@ -51,41 +49,18 @@ bit_of b = if b then 1 else 0
 yes : (a b : ℕ) → a ≡ b → (a == b) ≡ true
 yes a b e = elim (eqb_tells a b) [ inl t ↦ t.0 | inr t ↦ absurd (t.1 e) ]
 
-no : (a b : ℕ) → (a ≡ b → ⊥) → (a == b) ≡ false
-no a b n = elim (eqb_tells a b) [ inl t ↦ absurd (n t.1) | inr t ↦ t.0 ]
-
 -- the kind of a slot with the halves p and q
 abbrev pub kind_of : ℕ → ℕ → Slot
 kind_of p q = if (p == 2 ^ 32 - 1) && (q == 2 ^ 32 - 1) then Free else (if q == 2 ^ 32 - 1 - p then Good p else Spoiled)
 
 not_both : (p q : ℕ) → q ≡ 2 ^ 32 - 1 - p → ((p == 2 ^ 32 - 1) && (q == 2 ^ 32 - 1)) ≡ false
-not_both p q e =
-    elim (eqb_tells p (2 ^ 32 - 1)) [
-      | inl a ↦ (let b : (q == 2 ^ 32 - 1) ≡ false = no q (2 ^ 32 - 1) (λ o. omega (arith, a.1)) in rw (a.0, b) refl)
-      | inr a ↦ rw a.0 refl
-    ]
+not_both p q h1 = grind (arith, common_steps, eqb_tells, ne_eqb)
 
 good_test : (x p q : ℕ) → (x ≡ 2 ^ 32 - 1 → q ≡ 2 ^ 32 - 1 - p) → (q ≡ 2 ^ 32 - 1 - p → x ≡ 2 ^ 32 - 1) → bit_of (x == 2 ^ 32 - 1) ≡ bit_of (is_good (kind_of p q))
-good_test x p q f g =
-    elim (eqb_tells q (2 ^ 32 - 1 - p)) [
-      | inl c ↦ rw (yes x (2 ^ 32 - 1) (g c.1), not_both p q c.1, c.0) refl
-      | inr c ↦ (let t : (x == 2 ^ 32 - 1) ≡ false = no x (2 ^ 32 - 1) (λ e. c.1 (f e)) in
-          elim (eqb_tells p (2 ^ 32 - 1)) [
-            | inl a ↦ elim (eqb_tells q (2 ^ 32 - 1)) [ inl b ↦ rw (t, a.0, b.0) refl | inr b ↦ rw (t, a.0, b.0, c.0) refl ]
-            | inr a ↦ rw (t, a.0, c.0) refl
-          ])
-    ]
+good_test x p q h1 h2 = grind (arith, common_steps, eqb_tells, yes, not_both, ne_eqb)
 
 free_test : (x p q : ℕ) → (x ≡ 2 ^ 32 - 1 → (p ≡ 2 ^ 32 - 1) × (q ≡ 2 ^ 32 - 1)) → (p ≡ 2 ^ 32 - 1 → q ≡ 2 ^ 32 - 1 → x ≡ 2 ^ 32 - 1) → bit_of (x == 2 ^ 32 - 1) ≡ bit_of (is_free (kind_of p q))
-free_test x p q f g =
-    elim (eqb_tells x (2 ^ 32 - 1)) [
-      | inl a ↦ (let h = f a.1 in rw (a.0, yes p (2 ^ 32 - 1) h.0, yes q (2 ^ 32 - 1) h.1) refl)
-      | inr a ↦ (let n : ((p == 2 ^ 32 - 1) && (q == 2 ^ 32 - 1)) ≡ false = elim (eqb_tells p (2 ^ 32 - 1)) [
-        | inl b ↦ rw (b.0, no q (2 ^ 32 - 1) (λ c. a.1 (g b.1 c))) refl
-        | inr b ↦ rw b.0 refl
-      ] in
-          elim (eqb_tells q (2 ^ 32 - 1 - p)) [ inl c ↦ rw (a.0, n, c.0) refl | inr c ↦ rw (a.0, n, c.0) refl ])
-    ]
+free_test x p q h1 h2 = grind (arith, common_steps, eqb_tells, yes, ne_eqb)
 
 -- what the kernels test of the halves of a slot
 pub good_by_xor : (p q : ℕ) → p < 2 ^ 32 → q < 2 ^ 32 → bit_of (bit_xor p q == 2 ^ 32 - 1) ≡ bit_of (is_good (kind_of p q))
@@ -96,12 +71,7 @@ free_by_and p q lp lq = free_test (bit_and p q) p q (λ e. and_ones p q lp lq e)
 
 -- a number of four bytes in lanes
 number_four : (ys : List ℕ) → length ys ≡ 4 → number_l 256 ys ≡ number_at ys 0
-number_four [] e = absurd (omega arith)
-number_four (a ∷ []) e = absurd (omega arith)
-number_four (a ∷ b ∷ []) e = absurd (omega arith)
-number_four (a ∷ b ∷ c ∷ []) e = absurd (omega arith)
-number_four (a ∷ b ∷ c ∷ d ∷ []) e = omega arith
-number_four (a ∷ b ∷ c ∷ d ∷ f ∷ ys) e = absurd (omega arith)
+number_four ys h1 = grind (arith, common_steps)
 
 pub wide_lane : (xs : List ℕ) (j : ℕ) → length xs ≡ 64 → Each1 (λ x. x < 256) xs → j < 16 → get_or (digits_l (2 ^ 32) 16 (number_l 256 xs)) j 0 ≡ number_at xs (4 * j)
 wide_lane xs j e each l =
@@ -161,18 +131,14 @@ number_bound xs at b = omega (arith, b at, b (at + 1), b (at + 2), b (at + 3))
 
 -- FFh in each byte of an AND
 pub and_byte : (a b : ℕ) → a < 256 → b < 256 → bit_and a b ≡ 255 → (a ≡ 255) × (b ≡ 255)
-and_byte a b la lb e =
-    let c = and_le_l a b in
-    let d : bit_and a b ≤ b = omega (arith, and_comm a b, and_le_l b a) in
-    (omega arith, omega arith)
+and_byte a b h1 h2 h3 = grind (arith, common_steps, and_le_l, and_comm)
 
 ones_lt : (n : ℕ) → 2 ^ n - 1 < 2 ^ n
 ones_lt n = let p = pow_pos n in omega arith
 
 -- a mask of lanes that all pass
 one_tells : (b : Bool) → bit_of b ≡ 1 → b ≡ true
-one_tells true e = refl
-one_tells false e = cc
+one_tells b h1 = grind (arith, common_steps)
 
 pub mask_full : (n : ℕ) (p : ℕ → Bool) (xs : List ℕ) → length xs ≡ n → mask_l (map p xs) ≡ 2 ^ n - 1 → (i : ℕ) → i < n → p (get_or xs i 0) ≡ true
 mask_full n p xs e f i l =
@@ -222,11 +188,7 @@ quarter_lane h e k l =
 
 -- four bytes that are FFh, by their AND
 pub and_four : (a b c d : ℕ) → a < 256 → b < 256 → c < 256 → d < 256 → bit_and (bit_and a b) (bit_and c d) ≡ 255 → (a ≡ 255) × (b ≡ 255) × (c ≡ 255) × (d ≡ 255)
-and_four a b c d la lb lc ld e =
-    let x = and_byte (bit_and a b) (bit_and c d) (omega (arith, and_le_l a b)) (omega (arith, and_le_l c d)) e in
-    let y = and_byte a b la lb x.0 in
-    let z = and_byte c d lc ld x.1 in
-    (y.0, y.1, z.0, z.1)
+and_four a b c d h1 h2 h3 h4 h5 = grind (arith, common_steps, and_byte, and_le_l)
 
 -- each lane of 64, by its quarter
 pub by_quarters : (h : List ℕ) → ((k : ℕ) → k < 16 → (get_or h k 0 ≡ 255) × (get_or h (16 + k) 0 ≡ 255) × (get_or h (32 + k) 0 ≡ 255) × (get_or h (48 + k) 0 ≡ 255)) → (m : ℕ) → m < 64 → get_or h m 0 ≡ 255

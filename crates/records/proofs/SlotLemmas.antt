@@ -1,8 +1,9 @@
-use Rattle.std.proofs.Common.{◌≡◌, ◌≢◌, ℕ, ◌+◌, ◌-◌, ◌*◌, ◌<◌, ◌^◌, suc, zero, Bool, true, false, ◌==◌, ◌&&◌, if◌then◌else◌, List, length, get_or, bit_and, refl, arith, ◌∙◌, sym, replicate, subst, lit<, inl, inr}
+use Rattle.std.proofs.lemmas.Grind.{common_steps}
+use Rattle.std.proofs.Common.{◌≡◌, ◌≢◌, ℕ, ◌+◌, ◌-◌, ◌*◌, ◌<◌, ◌^◌, Bool, true, ◌==◌, ◌&&◌, if◌then◌else◌, List, length, get_or, bit_and, refl, arith, ◌∙◌, sym, replicate, subst, lit<, inl, inr}
 use Rattle.std.proofs.lemmas.Bool.Decides.{nat_tests}
 use Rattle.std.proofs.lemmas.Grind.{same_number_lists}
 use Rattle.std.proofs.lemmas.List.{get_or-take, get_or-drop, get_or_past, get_or-replicate}
-use Rattle.std.proofs.lemmas.Bool.{cases_lt}
+use Rattle.std.proofs.lemmas.Bool.{cases_lt, eqb-true}
 use Rattle.std.proofs.lemmas.Nat.{and_comm, and_mask}
 use Rattle.std.proofs.lemmas.Nat.Bits.{bit_at-zero, bit_at_ones}
 use Rattle.std.specs.Int.{bit_at}
@@ -14,38 +15,22 @@ use Rattle.records.proofs.BitsOf.{pinned, below_four, complement_bits}
 
 -- the tests behind an answer
 free_if : (a b c : Bool) (w : ℕ) → (if a && b then Free else (if c then Good w else Spoiled)) ≡ Free → (a ≡ true) × (b ≡ true)
-free_if true true c w e = (refl, refl)
-free_if true false true w e = cc
-free_if true false false w e = cc
-free_if false b true w e = cc
-free_if false b false w e = cc
+free_if a b c w h1 = grind (arith, common_steps)
 
 good_if : (a b c : Bool) (w v : ℕ) → (if a && b then Free else (if c then Good w else Spoiled)) ≡ Good v → (c ≡ true) × (w ≡ v)
-good_if true true c w v e = cc
-good_if true false true w v e = (refl, cc)
-good_if true false false w v e = cc
-good_if false b true w v e = (refl, cc)
-good_if false b false w v e = cc
-
-eq_of : (a b : ℕ) → (a == b) ≡ true → a ≡ b
-eq_of a b e = grind (arith, nat_tests)
+good_if a b c w v h1 = grind (arith, common_steps)
 
 -- each half as its bytes
 pub first_is : (y : List ℕ) → first_half y ≡ get_or y 0 0 + get_or y 1 0 * 256 + get_or y 2 0 * 65536 + get_or y 3 0 * 16777216
-first_is y =
-    omega (arith, get_or-take 4 y 0 0 (lit< tt), get_or-take 4 y 1 0 (lit< tt), get_or-take 4 y 2 0 (lit< tt), get_or-take 4 y 3 0 (lit< tt))
+first_is y = grind (arith, common_steps, get_or-take)
 
 pub second_is : (y : List ℕ) → second_half y ≡ get_or y 4 0 + get_or y 5 0 * 256 + get_or y 6 0 * 65536 + get_or y 7 0 * 16777216
-second_is y =
-    omega (arith, get_or-drop 4 y 0 0, get_or-drop 4 y 1 0, get_or-drop 4 y 2 0, get_or-drop 4 y 3 0)
+second_is y = grind (arith, common_steps, get_or-drop)
 
 -- a Good slot has its word and the complement
 pub good_halves : (y : List ℕ) (word : ℕ) → slot_of y ≡ Good word → (first_half y ≡ word) × (second_half y ≡ 2 ^ 32 - 1 - word)
 unfolding slot_of
-good_halves y word e =
-    let g : ((second_half y == 2 ^ 32 - 1 - first_half y) ≡ true) × (first_half y ≡ word) = good_if (first_half y == 2 ^ 32 - 1) (second_half y == 2 ^ 32 - 1) _ _ _ e in
-    let h : second_half y ≡ 2 ^ 32 - 1 - first_half y = eq_of _ _ g.0 in
-    (g.1, omega arith)
+good_halves y word h1 = grind (arith, common_steps, good_if, eqb-true)
 
 -- and each byte beside its complement
 pub good_pairs : (y : List ℕ) (word : ℕ) → IsSlot y → slot_of y ≡ Good word → (k : ℕ) → k < 4 → get_or y k 0 + get_or y (k + 4) 0 ≡ 255
@@ -66,8 +51,8 @@ pub free_bytes : (x : List ℕ) → IsSlot x → slot_of x ≡ Free → (k : ℕ
 unfolding slot_of
 free_bytes x s e =
     let g : ((first_half x == 2 ^ 32 - 1) ≡ true) × ((second_half x == 2 ^ 32 - 1) ≡ true) = free_if (first_half x == 2 ^ 32 - 1) (second_half x == 2 ^ 32 - 1) (second_half x == 2 ^ 32 - 1 - first_half x) (first_half x) e in
-    let h : first_half x ≡ 2 ^ 32 - 1 = eq_of _ _ g.0 in
-    let i : second_half x ≡ 2 ^ 32 - 1 = eq_of _ _ g.1 in
+    let h : first_half x ≡ 2 ^ 32 - 1 = eqb-true _ _ g.0 in
+    let i : second_half x ≡ 2 ^ 32 - 1 = eqb-true _ _ g.1 in
     let f = first_is x in
     let t = second_is x in
     let P : ℕ → Type 0 = λ k. (get_or x k 0 ≡ 255) × (get_or x (k + 4) 0 ≡ 255) in
@@ -118,15 +103,7 @@ good_within x y word sx sy sound w e =
 -- an encoded word is a slot
 pub encoded_byte : (word k : ℕ) → get_or (encoded word) k 0 < 256
 unfolding encoded
-encoded_byte w zero = omega arith
-encoded_byte w (suc zero) = omega arith
-encoded_byte w (suc (suc zero)) = omega arith
-encoded_byte w (suc (suc (suc zero))) = omega arith
-encoded_byte w (suc (suc (suc (suc zero)))) = omega arith
-encoded_byte w (suc (suc (suc (suc (suc zero))))) = omega arith
-encoded_byte w (suc (suc (suc (suc (suc (suc zero)))))) = omega arith
-encoded_byte w (suc (suc (suc (suc (suc (suc (suc zero))))))) = omega arith
-encoded_byte w (suc (suc (suc (suc (suc (suc (suc (suc k)))))))) = omega arith
+encoded_byte word k = grind (arith, common_steps)
 
 pub encoded_slot : (word : ℕ) → IsSlot (encoded word)
 unfolding encoded
@@ -174,13 +151,7 @@ unfolding slot_of
 slot_of-blank = refl
 
 pub blank_slot : IsSlot (replicate 8 255)
-blank_slot = record {
-  eight = refl;
-  each = λ k. elim (cases_lt k 8) [
-    | inl l ↦ rw (get_or-replicate {A = ℕ} 8 k 255 0 l) (omega arith)
-    | inr l ↦ rw (get_or_past {X = ℕ} (replicate 8 255) k 0 l) (omega arith)
-  ];
-}
+blank_slot = grind (arith, common_steps, cases_lt, get_or-replicate, get_or_past)
 
 pub free_is_blank : (x : List ℕ) → IsSlot x → slot_of x ≡ Free → x ≡ replicate 8 255
 free_is_blank x s e = same_number_lists x (replicate 8 255) s.eight (λ k l. let b : k < 8 = omega (arith, s.eight) in all_eight x s e k b ∙ sym (get_or-replicate 8 k 255 0 b))
@@ -210,10 +181,7 @@ and_encoded word k l = rw (get_or-replicate {A = ℕ} 8 k 255 0 l) (ones_and _ (
 
 -- a whole program of a Free slot with an encoded word leaves that word encoded
 pub programmed_free : (word : ℕ) (x y : List ℕ) → IsSlot x → slot_of x ≡ Free → length y ≡ 8 → ((k : ℕ) → k < 8 → get_or y k 0 ≡ bit_and (get_or x k 0) (get_or (encoded word) k 0)) → y ≡ encoded word
-programmed_free word x y s e eight program =
-    same_number_lists y (encoded word) (eight ∙ sym (encoded_slot word).eight) (λ k l.
-    let b : k < 8 = omega (arith, eight) in
-    program k b ∙ rw (all_eight x s e k b) (ones_and _ (encoded_byte word k)))
+programmed_free word x y h1 h2 h3 h4 = grind (arith, common_steps, same_number_lists, encoded_slot, all_eight, ones_and, encoded_byte)
 
 -- a torn program of a Free slot leaves the bits of the word
 pub program_within : (word : ℕ) (x y : List ℕ) → IsSlot x → slot_of x ≡ Free → ProgramMayLeave x (encoded word) y → Within (encoded word) y
