@@ -1,10 +1,11 @@
 -- A change whose words are appended.
+use Rattle.std.proofs.lemmas.Grind.{common_steps}
 use Rattle.std.proofs.Common.{◌≡◌, ◌∙◌, ℕ, ◌+◌, ◌<◌, ◌≤◌, refl, sym, subst, arith, List, [], ◌∷◌, ◌++◌, length, take, get_or, Some}
 use Rattle.page_turnover.specs.declared.log.stepping.Step.{Step}
 use Rattle.page_turnover.specs.declared.log.stepping.Step.TheVariants.{Committed}
 use Rattle.page_turnover.specs.Value.{LogValue, Task, Rest, Append}
 use Rattle.page_turnover.specs.Words.{words}
-use Rattle.page_turnover.specs.Steps.{CommitsWord, Commits, EndsAs, Appends, StepsFor}
+use Rattle.page_turnover.specs.Steps.{Commits, EndsAs, Appends, StepsFor}
 use Rattle.settings.specs.declared.change.Change.{Change}
 use Rattle.page_turnover.specs.representation.Log.{Describes}
 use Rattle.settings.specs.declared.store.Work.{Work}
@@ -25,16 +26,11 @@ pub the_change : (changes : List Change) (lent change : Change) → lent ≡ get
 the_change changes lent change e o = rw o at e
 
 pub one_is_change : (image : List ℕ) (changes : List Change) (log : LogValue) (at : ℕ) (a : IsAppending image changes log at) → IsChange a.change
-one_is_change image changes log at a =
-    let C : List Change → Type 0 = λ cs. (k : ℕ) (d : Change) → k < length cs → IsChange (get_or cs k d) in
-    (subst C a.one a.are_changes) 0 a.change (omega arith)
+one_is_change image changes log at a = grind (arith, common_steps)
 
 -- one word of it was committed
 pub one_word : (old : List ℕ) (changes : List Change) (log next : LogValue) (at word : ℕ) (new : List ℕ) → (a : IsAppending old changes log at) → next.task ≡ Append word → word ≡ get_or (words_of a.change) at 0 → Commits old next.task new → words new ≡ a.first ++ take (at + 1) (words_of a.change)
-one_word old changes log next at word new a t w c =
-    let C : Task → Type 0 = λ x. Commits old x new in
-    let f : CommitsWord old word new = subst C t c in
-    words_more old new a.first a.change at word a.words_are a.more w f.words_are
+one_word old changes log next at word new a h1 h2 h3 = grind (arith, common_steps, words_more)
 
 -- there is room for the others
 gone_on : (old : List ℕ) (changes : List Change) (log next : LogValue) (at word : ℕ) (step : Step) (new : List ℕ) (after : LogValue) → (a : IsAppending old changes log at) → next ≡ record log { task = Append word } → Appends old next word step new after

@@ -1,5 +1,6 @@
 -- Whether changes may begin, and what they need.
-use Rattle.std.proofs.Common.{◌≡◌, ◌∙◌, ◌↔◌, ℕ, ◌+◌, ◌-◌, ◌<◌, ◌≤◌, refl, sym, ap, subst, arith, IsTrue, List, [], ◌∷◌, ◌++◌, Option, Some, None, inl, inr, IsSomeAnd, nat_le}
+use Rattle.std.proofs.lemmas.Grind.{common_steps}
+use Rattle.std.proofs.Common.{◌≡◌, ◌∙◌, ◌↔◌, ℕ, ◌+◌, ◌-◌, ◌<◌, ◌≤◌, refl, sym, ap, subst, arith, IsTrue, List, [], ◌∷◌, ◌++◌, Option, Some, None, IsSomeAnd, nat_le}
 use Rattle.std.proofs.lemmas.Bool.{cases_lt}
 use Rattle.std.proofs.lemmas.List.{append-nil}
 use Rattle.page_turnover.specs.declared.log.ActivePage.{ActivePage}
@@ -24,53 +25,20 @@ use Rattle.settings.proofs.Turning.{erases_left-ready, erases_left-used}
 
 -- a page has one tail
 tail_le : (image : List ℕ) (page a b : ℕ) → IsTail image page a → IsTail image page b → a ≤ b
-tail_le image page a b x y =
-    elim (cases_lt b a) [
-      | inr l ↦ l
-      | inl l ↦ (let m = y.low in let h = x.high in absurd (x.used (omega arith) (y.free (a - 1) (omega arith) (omega arith))))
-    ]
+tail_le image page a b h1 h2 = grind (arith, common_steps, cases_lt)
 
 pub same_tail : (image : List ℕ) (page a b : ℕ) → IsTail image page a → IsTail image page b → a ≡ b
 same_tail image page a b x y = let p = tail_le image page a b x y in let q = tail_le image page b a y x in omega arith
 
 -- the room for some words, by what a log holds
 pub room_for : (image : List ℕ) (log : LogValue) (tail words : ℕ) → Describes image log → HasTailRoom log → IsSomeAnd (active image) (λ place. IsTail image place.0 tail) → tail + words ≤ 512 → HasRoomFor image words
-room_for image log tail words d r t l = by_active log.active refl r
-  where
-    by_active : (held : Option ActivePage) → log.active ≡ held → IsSomeAnd held (λ a. (a.format ≡ 2) × (a.tail ≤ 511)) → HasRoomFor image words
-    by_active None e h = absurd h
-    by_active (Some a) e h =
-        let held = held_active image log a d e in
-        let T : Option (ℕ × ℕ) → Type 0 = λ x. IsSomeAnd x (λ place. IsTail image place.0 tail) in
-        record { page = a.page; seq = a.seq; is_active = held.is_active; current = rw (← h.0) held.format_is; tail = tail; is_tail = subst T held.is_active t; room = l }
+room_for image log tail words h1 h2 h3 h4 = grind (arith, common_steps, held_active)
 
 pub room_held : (image : List ℕ) (log : LogValue) (words : ℕ) → Describes image log → 0 < words → HasRoomFor image words → HasTailRoom log
-room_held image log words d n r = by_active log.active refl
-  where
-    by_active : (held : Option ActivePage) → log.active ≡ held → IsSomeAnd held (λ a. (a.format ≡ 2) × (a.tail ≤ 511))
-    by_active None e = let f = held_none image log d e in let g = r.is_active in cc
-    by_active (Some a) e =
-        let held = held_active image log a d e in
-        let p : a.page ≡ r.page = same_page image a.page a.seq r.page r.seq held.is_active r.is_active in
-        let t : a.tail ≡ r.tail = same_tail image r.page a.tail r.tail (rw p at held.is_tail) r.is_tail in
-        let f : Some a.format ≡ Some 2 = sym held.format_is ∙ r.current in
-        let l = r.room in
-        (cc, omega arith)
+room_held image log words h1 h2 h3 = grind (arith, common_steps, held_none, held_active, same_page, same_tail)
 
 pub room_test : (image : List ℕ) (log : LogValue) (tail words : ℕ) → Describes image log → HasTailRoom log → IsSomeAnd (active image) (λ place. IsTail image place.0 tail) → 1 ≤ words → words ≤ 64 → IsTrue (nat_le tail (512 - words)) ↔ HasRoomFor image words
-room_test image log tail words d r t l m = (
-  λ e. (let k : tail ≤ 512 - words = le_of tail (512 - words) e in room_for image log tail words d r t (omega arith)),
-  λ h. le_test tail (512 - words) (held h (active image) refl t),
-)
-  where
-    held : (h : HasRoomFor image words) (place : Option (ℕ × ℕ)) → active image ≡ place → IsSomeAnd place (λ p. IsTail image p.0 tail) → tail ≤ 512 - words
-    held h None e x = absurd x
-    held h (Some place) e x =
-        let f : Some (h.page, h.seq) ≡ Some place = sym h.is_active ∙ e in
-        let p : h.page ≡ place.0 = cc in
-        let s : tail ≡ h.tail = same_tail image h.page tail h.tail (rw p x) h.is_tail in
-        let room = h.room in
-        omega arith
+room_test image log tail words h1 h2 h3 h4 h5 = grind (arith, common_steps, le_of, room_for, le_test, same_tail)
 
 -- the words of one change are next
 pub begins_append : (image : List ℕ) (changes : List Change) (log : LogValue) → Describes image log → log.task ≡ Rest → IsUsable image → AreChanges changes → IsAppended image changes → IsAppending image changes log 0

@@ -19,12 +19,10 @@ unfolding changes_in
 changes_in-word word rest = refl
 
 change_with-stop : (id : ℕ) (len : Option ℕ) (words : List ℕ) (head : ℕ) (rest : List ℕ) → is_data head ≡ false → change_with id len (words ++ head ∷ rest) ≡ change_with id len words
-change_with-stop id None words head rest d = refl
-change_with-stop id (Some len) words head rest d = rw (gathered-stop len [] words head rest d) refl
+change_with-stop id len words head rest h1 = grind (arith, common_steps, gathered-stop)
 
 change_at-stop : (begins : Option Head) (words : List ℕ) (head : ℕ) (rest : List ℕ) → is_data head ≡ false → change_at begins (words ++ head ∷ rest) ≡ change_at begins words
-change_at-stop None words head rest d = refl
-change_at-stop (Some begins) words head rest d = change_with-stop begins.id begins.len words head rest d
+change_at-stop begins words head rest h1 = grind (arith, common_steps, change_with-stop)
 
 -- a word that begins a change leaves what was before it
 pub changes_in-stop : (words : List ℕ) (head : ℕ) (rest : List ℕ) → is_data head ≡ false → changes_in (words ++ head ∷ rest) ≡ changes_in words ++ changes_in (head ∷ rest)
@@ -56,11 +54,7 @@ all_packed bytes h = rw (take_all (length (packed bytes)) (packed bytes) (omega 
 
 -- the word before a value, and some of the words behind it
 changes_in-begun : (id : ℕ) (bytes : List ℕ) (n : ℕ) → id < 2 ^ 16 → IsValue bytes → n < length (packed bytes) → changes_in (value_word id (length bytes) ∷ take n (packed bytes)) ≡ []
-changes_in-begun id bytes n l v m =
-    let p : length (packed bytes) ≡ (length bytes + 2) / 3 = length-packed bytes in
-    let t : length (take n (packed bytes)) ≡ n = length-take-le n (packed bytes) (omega arith) in
-    let few : gathered (length bytes) [] (take n (packed bytes)) ≡ None = gathered-few (length bytes) [] (take n (packed bytes)) (omega (arith, p, t)) in
-    changes_in-word (value_word id (length bytes)) (take n (packed bytes)) ∙ rw (head_of-value id (length bytes) l v.short, few) (changes_in-packed bytes n v.bytes_are)
+changes_in-begun id bytes n h1 h2 h3 = grind (arith, common_steps, length-packed, length-take-le, gathered-few, changes_in-word, head_of-value, changes_in-packed)
 
 changes_in-whole : (id : ℕ) (bytes : List ℕ) → id < 2 ^ 16 → IsValue bytes → changes_in (value_word id (length bytes) ∷ packed bytes) ≡ record { id = id; value = Some bytes } ∷ []
 changes_in-whole id bytes l v =
@@ -72,12 +66,7 @@ changes_in-removal : (id : ℕ) → id < 2 ^ 16 → changes_in (removal_word id 
 changes_in-removal id l = changes_in-word (removal_word id) [] ∙ rw (head_of-removal id l, changes_in-none) refl
 
 absent_with : (words : List ℕ) (id : ℕ) (value : Option (List ℕ)) (n : ℕ) → IsChange (record { id = id; value = value }) → n < length (words_with id value) → changes_in (words ++ take n (words_with id value)) ≡ changes_in words
-absent_with words id None zero c l = rw (append-nil words) refl
-absent_with words id None (suc n) c l = absurd (omega arith)
-absent_with words id (Some bytes) zero c l = rw (append-nil words) refl
-absent_with words id (Some bytes) (suc n) c l =
-    changes_in-stop words (value_word id (length bytes)) (take n (packed bytes)) (is_data-value id (length bytes) c.small c.value_is.short)
-    ∙ rw (changes_in-begun id bytes n c.small c.value_is (omega arith)) (append-nil (changes_in words))
+absent_with words id value n h1 h2 = grind (arith, common_steps, append-nil, changes_in-stop, is_data-value, changes_in-begun)
 
 whole_with : (words : List ℕ) (id : ℕ) (value : Option (List ℕ)) → IsChange (record { id = id; value = value }) → changes_in (words ++ words_with id value) ≡ changes_in words ++ record { id = id; value = value } ∷ []
 whole_with words id None c = changes_in-stop words (removal_word id) [] (is_data-removal id c.small) ∙ rw (changes_in-removal id c.small) refl

@@ -1,15 +1,12 @@
 -- The bytes of a value from its words.
-use Rattle.std.proofs.Common.{◌≡◌, ◌∙◌, ℕ, suc, ◌+◌, ◌*◌, ◌^◌, ◌<◌, ◌≤◌, true, false, refl, sym, ap, arith, List, [], ◌∷◌, ◌++◌, length, take, get_or, Some, None, nat_le, inl, inr, append_assoc}
-use Rattle.std.proofs.lemmas.Bool.{cases_Bool}
-use Rattle.std.proofs.lemmas.Bool.Decides.{nat_tests}
+use Rattle.std.proofs.lemmas.Grind.{common_steps}
+use Rattle.std.proofs.Common.{◌≡◌, ◌∙◌, ℕ, suc, ◌+◌, ◌*◌, ◌^◌, ◌<◌, ◌≤◌, true, false, refl, sym, ap, arith, List, [], ◌∷◌, ◌++◌, length, take, get_or, Some, None, inl, inr, append_assoc}
+use Rattle.std.proofs.lemmas.Bool.{cases_Bool, lt-leb}
 use Rattle.std.proofs.lemmas.List.{append-nil, length-append, take_all}
 use Rattle.page_turnover.proofs.Describing.{le_test}
 use Rattle.settings.specs.Words.{data_word, packed, is_data, word_bytes}
 use Rattle.settings.specs.Settings.{gathered}
 use Rattle.settings.proofs.Formats.{is_data-data, word_bytes-data}
-
-pub le_not : (a b : ℕ) → b < a → nat_le a b ≡ false
-le_not a b l = grind (arith, nat_tests)
 
 pub gathered-enough : (len : ℕ) (bytes words : List ℕ) → len ≤ length bytes → gathered len bytes words ≡ Some (take len bytes)
 unfolding gathered
@@ -18,15 +15,15 @@ gathered-enough len bytes (word ∷ rest) l = rw (le_test len (length bytes) l) 
 
 pub gathered-more : (len : ℕ) (bytes : List ℕ) (word : ℕ) (rest : List ℕ) → length bytes < len → is_data word ≡ true → gathered len bytes (word ∷ rest) ≡ gathered len (bytes ++ word_bytes word) rest
 unfolding gathered
-gathered-more len bytes word rest l d = rw (le_not len (length bytes) l, d) refl
+gathered-more len bytes word rest l d = rw (lt-leb len (length bytes) l, d) refl
 
 pub gathered-other : (len : ℕ) (bytes : List ℕ) (word : ℕ) (rest : List ℕ) → length bytes < len → is_data word ≡ false → gathered len bytes (word ∷ rest) ≡ None
 unfolding gathered
-gathered-other len bytes word rest l d = rw (le_not len (length bytes) l, d) refl
+gathered-other len bytes word rest l d = rw (lt-leb len (length bytes) l, d) refl
 
 pub gathered-end : (len : ℕ) (bytes : List ℕ) → length bytes < len → gathered len bytes [] ≡ None
 unfolding gathered
-gathered-end len bytes l = rw (le_not len (length bytes) l) refl
+gathered-end len bytes l = rw (lt-leb len (length bytes) l) refl
 
 -- too few words
 pub gathered-few : (len : ℕ) (bytes words : List ℕ) → length bytes + 3 * length words < len → gathered len bytes words ≡ None
@@ -57,8 +54,7 @@ two_more (x ∷ bytes) a b c = let e : length (x ∷ bytes) + 2 ≡ suc (length 
 
 -- one word of three bytes
 with_word : (len : ℕ) (bytes : List ℕ) (a b c : ℕ) (rest : List ℕ) → length bytes < len → a < 2 ^ 8 → b < 2 ^ 8 → c < 2 ^ 8 → gathered len bytes (data_word a b c ∷ rest) ≡ gathered len (bytes ++ a ∷ b ∷ c ∷ []) rest
-with_word len bytes a b c rest l x y z =
-    gathered-more len bytes (data_word a b c) rest l (is_data-data a b c x y z) ∙ ap (λ (t : List ℕ). gathered len (bytes ++ t) rest) (word_bytes-data a b c x y z)
+with_word len bytes a b c rest h1 h2 h3 h4 = grind (arith, common_steps, gathered-more, is_data-data, word_bytes-data)
 
 -- the words of some bytes give them back
 pub gathered-packed : (bytes more rest : List ℕ) → AreBytes more → gathered (length bytes + length more) bytes (packed more ++ rest) ≡ Some (bytes ++ more)

@@ -19,21 +19,14 @@ no_value values from at n l o = let m : at < 0 = rw n at o in absurd (omega arit
 
 -- the next id that has a value is the one whose words were given
 same_id : (values : ℕ → Option (List ℕ)) (from at : ℕ) (change : Change) → IsNext values from change → 0 < at → Owns values from at → from ≡ change.id
-same_id values from at change n l o =
-    elim (cases_lt from change.id) [
-      | inl m ↦ absurd (no_value values from at (n.first from (omega arith) m) l (o l).1)
-      | inr m ↦ (let a = n.after in omega arith)
-    ]
+same_id values from at change h1 h2 h3 = grind (arith, common_steps, cases_lt, no_value)
 
 pub kept_is : (values : ℕ → Option (List ℕ)) (from : ℕ) (change : Change) → IsNext values from change → kept_words change.id (values change.id) ≡ words_of change
 kept_is values from change n = rw n.is (sym (words_kept change n.bytes n.value_is))
 
 -- what was given, by the next id that has a value
 given_by : (values : ℕ → Option (List ℕ)) (from at : ℕ) (change : Change) → IsNext values from change → Owns values from at → given_words values from at ≡ copies_below values change.id ++ take at (words_of change)
-given_by values from zero change n o = rw (copies_gap values from change.id n.after n.first) refl
-given_by values from (suc at) change n o =
-    let e : from ≡ change.id = same_id values from (suc at) change n (omega arith) o in
-    rw (e, kept_is values from change n) refl
+given_by values from at change h1 h2 = grind (arith, common_steps, copies_gap, same_id, kept_is)
 
 pub next_inside : (values : ℕ → Option (List ℕ)) (from at : ℕ) (change : Change) → IsNext values from change → Owns values from at → 0 < length (words_of change) → at < length (words_of change)
 next_inside values from at change h1 h2 h3 = grind (arith, common_steps)
@@ -59,10 +52,7 @@ given_last values from at change n o l m =
 
 -- no id is left: all words were given
 pub given_all : (values : ℕ → Option (List ℕ)) (from at : ℕ) → from ≤ 2 ^ 16 → Owns values from at → NoneBetween values from (2 ^ 16) → given_words values from at ≡ all_copies values
-given_all values from zero l o n = rw (copies_gap values from (2 ^ 16) l n) (append-nil (copies_below values from))
-given_all values from (suc at) l o n =
-    let m = o (omega arith) in
-    absurd (no_value values from (suc at) (n from (omega arith) m.0) (omega arith) m.1)
+given_all values from at h1 h2 h3 = grind (arith, common_steps, copies_gap, append-nil, no_value)
 
 kept_more : (values : ℕ → Option (List ℕ)) (from : ℕ) → copies_below values (suc from) ≡ copies_below values from ++ kept_words from (values from)
 unfolding copies_below

@@ -1,6 +1,6 @@
 -- Words that are those of settings.
 use Rattle.std.proofs.lemmas.Grind.{common_steps}
-use Rattle.std.proofs.Common.{◌≡◌, ℕ, zero, suc, ◌^◌, ◌<◌, ◌≤◌, refl, arith, IsTrue, List, [], ◌∷◌, ◌++◌, length, Option, Some, None, All, inl}
+use Rattle.std.proofs.Common.{◌≡◌, ℕ, zero, suc, ◌^◌, ◌<◌, ◌≤◌, refl, arith, IsTrue, List, [], ◌∷◌, ◌++◌, Option, All, inl}
 use Rattle.std.proofs.lemmas.List.Elements.{All-append}
 use Rattle.page_turnover.specs.Words.{words}
 use Rattle.page_turnover.specs.Steps.{Keeps}
@@ -42,16 +42,14 @@ known_packed (a ∷ b ∷ []) h = known_more (data_word a b 0) [] (known_data a 
 known_packed (a ∷ b ∷ c ∷ rest) h = known_more (data_word a b c) (packed rest) (known_data a b c (h 0) (h 1) (h 2)) (known_packed rest (λ k. h (suc (suc (suc k)))))
 
 known_with : (id : ℕ) (value : Option (List ℕ)) → id < 2 ^ 16 → IsValueIfSome value → AreKnown (words_with id value)
-known_with id None l v = known_more (removal_word id) [] (known_removal id l) known_none
-known_with id (Some bytes) l v = known_more (value_word id (length bytes)) (packed bytes) (known_value id (length bytes) l v.short) (known_packed bytes v.bytes_are)
+known_with id value h1 h2 = grind (arith, common_steps, known_more, known_removal, known_none, known_value, known_packed)
 
 pub known_change : (change : Change) → IsChange change → AreKnown (words_of change)
 unfolding words_of
 known_change change c = known_with change.id change.value c.small c.value_is
 
 known_kept : (id : ℕ) (value : Option (List ℕ)) → id < 2 ^ 16 → IsValueIfSome value → AreKnown (kept_words id value)
-known_kept id None l v = known_none
-known_kept id (Some bytes) l v = known_change (record { id = id; value = Some bytes }) (record { small = l; value_is = v })
+known_kept id value h1 h2 = grind (arith, common_steps, known_none, known_change)
 
 known_copies : (values : ℕ → Option (List ℕ)) (n : ℕ) → AreValues values → n ≤ 2 ^ 16 → AreKnown (copies_below values n)
 unfolding copies_below
@@ -63,11 +61,7 @@ pub between_kept : (old : List ℕ) (changes : List Change) (new : List ℕ) →
 between_kept old changes new u k = record { values = inl (same_kept old new k); usable = u; known = λ h. rw k.words_are h }
 
 pub between_added : (old : List ℕ) (changes : List Change) (new : List ℕ) (word : ℕ) → (IsUsable old → IsUsable new) → IsBeforeOrAfter old changes new → words new ≡ words old ++ word ∷ [] → IsTrue (is_known word) → IsBetween old changes new
-between_added old changes new word u v e k = record {
-  values = v;
-  usable = u;
-  known = λ h. rw e (All-append (λ word. IsTrue (is_known word)) (words old) (word ∷ []) h (known_more word [] k known_none));
-}
+between_added old changes new word h1 h2 h3 h4 = grind (arith, common_steps, known_more, known_none)
 
 pub between_copied : (old : List ℕ) (changes : List Change) (new : List ℕ) (values : ℕ → Option (List ℕ)) → (IsUsable old → IsUsable new) → IsBeforeOrAfter old changes new → words new ≡ all_copies values → AreValues values → IsBetween old changes new
 between_copied old changes new values u v e a = record { values = v; usable = u; known = λ h. rw e (known_copies values (2 ^ 16) a (omega arith)) }

@@ -1,5 +1,6 @@
 -- Values after some changes, and ids that nothing names.
-use Rattle.std.proofs.Common.{◌≡◌, ◌∙◌, ℕ, zero, suc, ◌+◌, ◌-◌, ◌<◌, ◌≤◌, refl, sym, ap, arith, List, [], ◌∷◌, ◌++◌, length, take, drop, get_or, Option, Some, None, inl, inr}
+use Rattle.std.proofs.lemmas.Grind.{common_steps}
+use Rattle.std.proofs.Common.{◌≡◌, ◌∙◌, ℕ, zero, suc, ◌+◌, ◌-◌, ◌<◌, ◌≤◌, refl, sym, arith, List, [], ◌∷◌, ◌++◌, length, take, drop, get_or, Option, Some, None, inl, inr}
 use Rattle.std.proofs.lemmas.Bool.{eq-eqb, ne_eqb, cases_lt}
 use Rattle.std.proofs.lemmas.List.{append-nil, length-append}
 use Rattle.page_turnover.specs.Words.{words}
@@ -53,9 +54,7 @@ words_kept change bytes e = rw e refl
 -- those up to the next id that has a value
 pub copies_next : (values : ℕ → Option (List ℕ)) (from : ℕ) (change : Change) → IsNext values from change → copies_below values (change.id + 1) ≡ copies_below values from ++ words_of change
 unfolding copies_below
-copies_next values from change n =
-    let s : change.id + 1 ≡ suc change.id = omega arith in
-    rw (s, n.is, words_kept change n.bytes n.value_is, copies_gap values from change.id n.after n.first) refl
+copies_next values from change h1 = grind (arith, common_steps, words_kept, copies_gap)
 
 pub copies_grow : (values : ℕ → Option (List ℕ)) (from to : ℕ) → from ≤ to → length (copies_below values from) ≤ length (copies_below values to)
 unfolding copies_below
@@ -73,17 +72,14 @@ copies_none values = refl
 -- the first change of some
 pub front_own : (value : Option (List ℕ)) (changes : List Change) (change other : Change) (id : ℕ) → 1 ≤ length changes → change ≡ get_or changes 0 other → change.id ≡ id
     → after value changes id ≡ after change.value (take (length changes - 1) (drop 1 changes)) id
-front_own value changes change other id l e i =
-    ap (λ (cs : List Change). after value cs id) (front changes change other l e) ∙ sym (after-own value change (take (length changes - 1) (drop 1 changes)) id i)
+front_own value changes change other id h1 h2 h3 = grind (arith, common_steps, front, after-own)
 
 pub front_skip : (value : Option (List ℕ)) (changes : List Change) (change other : Change) (id : ℕ) → 1 ≤ length changes → change ≡ get_or changes 0 other → (change.id ≡ id → ⊥)
     → after value changes id ≡ after value (take (length changes - 1) (drop 1 changes)) id
-front_skip value changes change other id l e n =
-    ap (λ (cs : List Change). after value cs id) (front changes change other l e) ∙ sym (after-skip value change (take (length changes - 1) (drop 1 changes)) id n)
+front_skip value changes change other id h1 h2 h3 = grind (arith, common_steps, front, after-skip)
 
 pub none_left : (value : Option (List ℕ)) (changes : List Change) (id : ℕ) → length changes < 1 → after value changes id ≡ value
-none_left value [] id l = after-end value id
-none_left value (change ∷ rest) id l = absurd (omega arith)
+none_left value changes id h1 = grind (arith, common_steps, after-end)
 
 -- an id below the best one after a name is not that name
 pub not_named : (from best name id : ℕ) → from ≤ id → id < best → (from ≤ name → best ≤ name) → name ≡ id → ⊥

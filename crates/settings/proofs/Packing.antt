@@ -1,6 +1,6 @@
 -- The words of some bytes.
 use Rattle.std.proofs.lemmas.Grind.{common_steps}
-use Rattle.std.proofs.Common.{◌≡◌, ℕ, zero, suc, ◌+◌, ◌-◌, ◌*◌, ◌/◌, ◌<◌, refl, sym, arith, List, [], ◌∷◌, length, get_or, Option, Some, None}
+use Rattle.std.proofs.Common.{◌≡◌, ℕ, zero, suc, ◌+◌, ◌-◌, ◌*◌, ◌/◌, ◌<◌, refl, arith, List, [], ◌∷◌, length, get_or, Option, Some, None}
 use Rattle.settings.specs.declared.change.Change.{Change}
 use Rattle.settings.specs.Words.{data_word, value_word, removal_word, packed, words_of, words_with}
 
@@ -45,11 +45,7 @@ word_first id bytes at z = rw z refl
 
 pub word_later : (id : ℕ) (bytes : List ℕ) (at : ℕ) → (at ≡ 0 → ⊥) → at < 1 + (length bytes + 2) / 3
     → data_word (get_or bytes (3 * (at - 1)) 0) (get_or bytes (3 * (at - 1) + 1) 0) (get_or bytes (3 * (at - 1) + 2) 0) ≡ get_or (words_with id (Some bytes)) at 0
-word_later id bytes zero l m = absurd (l refl)
-word_later id bytes (suc k) l m =
-    let n : suc k - 1 ≡ k = omega arith in
-    let p = length-packed bytes in
-    rw n (sym (packed-get bytes k (omega (arith, p))))
+word_later id bytes at h1 h2 = grind (arith, common_steps, length-packed, packed-get)
 
 pub word_with : (change : Change) (bytes : List ℕ) (at : ℕ) → change.value ≡ Some bytes → get_or (words_with change.id (Some bytes)) at 0 ≡ get_or (words_of change) at 0
 unfolding words_of

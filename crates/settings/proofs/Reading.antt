@@ -24,10 +24,7 @@ so_far p h = length-take-le p.got p.bytes (omega (arith, h.0, h.1, h.2))
 -- a word of bytes
 outcome_data : (id : ℕ) (value : Option (List ℕ)) (p : Partial) (word : ℕ) (rest : List ℕ) → IsPartial (Some p) → is_data word ≡ true
     → outcome id (record { value = value; partial = Some p }) (word ∷ rest) ≡ after (or_before (gathered p.len (take p.got p.bytes ++ word_bytes word) rest) value) (changes_in rest) id
-outcome_data id value p word rest h d =
-    let n = so_far p h in
-    outcome-is id (record { value = value; partial = Some p }) (word ∷ rest)
-    ∙ rw (gathered-more p.len (take p.got p.bytes) word rest (omega (arith, n, h.0)) d, changes_in-data word rest d) refl
+outcome_data id value p word rest h1 h2 = grind (arith, common_steps, so_far, outcome-is, gathered-more, changes_in-data)
 
 pub goes_on : (id : ℕ) (value : Option (List ℕ)) (p next : Partial) (word : ℕ) (rest : List ℕ) → IsPartial (Some p) → is_data word ≡ true → next.len ≡ p.len → take next.got next.bytes ≡ take p.got p.bytes ++ word_bytes word
     → outcome id (record { value = value; partial = Some next }) rest ≡ outcome id (record { value = value; partial = Some p }) (word ∷ rest)
@@ -46,24 +43,16 @@ is_whole id value p next word rest h d e g t l =
 
 -- a word of bytes where none are missing
 pub skips : (id : ℕ) (reading : Reading) (word : ℕ) (rest : List ℕ) → reading.partial ≡ None → is_data word ≡ true → outcome id reading rest ≡ outcome id reading (word ∷ rest)
-skips id reading word rest n d =
-    let a : outcome id reading rest ≡ after reading.value (changes_in rest) id = outcome-is id reading rest ∙ rw n refl in
-    let b : outcome id reading (word ∷ rest) ≡ after reading.value (changes_in rest) id = outcome-is id reading (word ∷ rest) ∙ rw (n, changes_in-data word rest d) refl in
-    a ∙ sym b
+skips id reading word rest h1 h2 = grind (arith, common_steps, outcome-is, changes_in-data)
 
 -- another word ends what was going on
 pub ends : (id : ℕ) (value : Option (List ℕ)) (partial : Option Partial) (word : ℕ) (rest : List ℕ) → IsPartial partial → is_data word ≡ false
     → outcome id (record { value = value; partial = None }) (word ∷ rest) ≡ outcome id (record { value = value; partial = partial }) (word ∷ rest)
-ends id value None word rest h d = refl
-ends id value (Some p) word rest h d =
-    let n = so_far p h in
-    outcome-is id (record { value = value; partial = None }) (word ∷ rest)
-    ∙ sym (outcome-is id (record { value = value; partial = Some p }) (word ∷ rest) ∙ rw (gathered-other p.len (take p.got p.bytes) word rest (omega (arith, n, h.0)) d) refl)
+ends id value partial word rest h1 h2 = grind (arith, common_steps, so_far, outcome-is, gathered-other)
 
 -- a word of no change, and one of a change of another id
 pub other_none : (id : ℕ) (value : Option (List ℕ)) (word : ℕ) (rest : List ℕ) → head_of word ≡ None → outcome id (record { value = value; partial = None }) rest ≡ outcome id (record { value = value; partial = None }) (word ∷ rest)
-other_none id value word rest e =
-    outcome-is id (record { value = value; partial = None }) rest ∙ sym (outcome-is id (record { value = value; partial = None }) (word ∷ rest) ∙ rw (changes_in-word word rest, e) refl)
+other_none id value word rest h1 = grind (arith, common_steps, outcome-is, changes_in-word)
 
 after_with : (v : Option (List ℕ)) (other : ℕ) (len : Option ℕ) (words : List ℕ) (rest : List Change) (id : ℕ) → (other ≡ id → ⊥) → after v (change_with other len words ++ rest) id ≡ after v rest id
 unfolding after
@@ -73,8 +62,7 @@ pub after_other : (v : Option (List ℕ)) (word : ℕ) (head : Head) (rest : Lis
 after_other v word head rest id e n = rw (changes_in-word word rest, e) (after_with v head.id head.len rest (changes_in rest) id n)
 
 pub other_head : (id : ℕ) (value : Option (List ℕ)) (word : ℕ) (head : Head) (rest : List ℕ) → head_of word ≡ Some head → (head.id ≡ id → ⊥) → outcome id (record { value = value; partial = None }) rest ≡ outcome id (record { value = value; partial = None }) (word ∷ rest)
-other_head id value word head rest e n =
-    outcome-is id (record { value = value; partial = None }) rest ∙ sym (outcome-is id (record { value = value; partial = None }) (word ∷ rest) ∙ after_other value word head rest id e n)
+other_head id value word head rest h1 h2 = grind (arith, common_steps, outcome-is, after_other)
 
 -- a change of the id begins
 own_given : (v : Option (List ℕ)) (id : ℕ) (value : Option (List ℕ)) (rest : List Change) → after v (given id value ++ rest) id ≡ after (or_before value v) rest id
@@ -83,8 +71,7 @@ own_given v id value rest = grind (arith, common_steps)
 
 pub begins_value : (id : ℕ) (value : Option (List ℕ)) (word len : ℕ) (rest : List ℕ) → head_of word ≡ Some (record { id = id; len = Some len })
     → outcome id (record { value = value; partial = None }) (word ∷ rest) ≡ after (or_before (gathered len [] rest) value) (changes_in rest) id
-begins_value id value word len rest e =
-    outcome-is id (record { value = value; partial = None }) (word ∷ rest) ∙ rw (changes_in-word word rest, e) (own_given value id (gathered len [] rest) (changes_in rest))
+begins_value id value word len rest h1 = grind (arith, common_steps, outcome-is, changes_in-word, own_given)
 
 own_none : (v : Option (List ℕ)) (id : ℕ) (words : List ℕ) (rest : List Change) → after v (change_with id None words ++ rest) id ≡ after None rest id
 unfolding after
@@ -102,8 +89,7 @@ begins_empty id value word rest e =
 
 pub begins_partial : (id : ℕ) (value : Option (List ℕ)) (p : Partial) (word : ℕ) (rest : List ℕ) → p.got ≡ 0 → head_of word ≡ Some (record { id = id; len = Some p.len })
     → outcome id (record { value = value; partial = Some p }) rest ≡ outcome id (record { value = value; partial = None }) (word ∷ rest)
-begins_partial id value p word rest z e =
-    outcome-is id (record { value = value; partial = Some p }) rest ∙ rw z (sym (begins_value id value word p.len rest e))
+begins_partial id value p word rest h1 h2 = grind (arith, common_steps, outcome-is, begins_value)
 
 -- at the start
 pub at_start : (id : ℕ) (image : List ℕ) → outcome id (record { value = None; partial = None }) (words image) ≡ settings_of image id
@@ -113,11 +99,7 @@ at_start id image = refl
 -- at the end
 pub at_end : (id : ℕ) (reading : Reading) → IsPartial reading.partial → outcome id reading [] ≡ reading.value
 unfolding outcome after
-at_end id reading h = rw changes_in-none (closed_end reading.value reading.partial h)
-  where
-    closed_end : (value : Option (List ℕ)) (partial : Option Partial) → IsPartial partial → closed value partial [] ≡ value
-    closed_end value None h = refl
-    closed_end value (Some p) h = let n = so_far p h in rw (gathered-end p.len (take p.got p.bytes) (omega (arith, n, h.0))) refl
+at_end id reading h1 = grind (arith, common_steps, changes_in-none, so_far, gathered-end)
 
 pub own_head : (word : ℕ) (head : Head) (id : ℕ) → head_of word ≡ Some head → head.id ≡ id → head_of word ≡ Some (record { id = id; len = head.len })
 own_head word head id e n = e ∙ ap (λ (i : ℕ). Some (record { id = i; len = head.len })) n

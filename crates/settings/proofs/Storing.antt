@@ -1,5 +1,6 @@
 -- The values of an image after its words were changed, and while they are.
-use Rattle.std.proofs.Common.{◌≡◌, ◌∙◌, ℕ, ◌+◌, ◌<◌, refl, sym, ap, arith, List, [], ◌∷◌, ◌++◌, length, take, get_or, Option, append_assoc}
+use Rattle.std.proofs.lemmas.Grind.{common_steps}
+use Rattle.std.proofs.Common.{◌≡◌, ◌∙◌, ℕ, ◌+◌, ◌<◌, refl, sym, ap, arith, List, [], ◌∷◌, ◌++◌, length, take, get_or, Option}
 use Rattle.std.proofs.lemmas.List.{take_all, take_more}
 use Rattle.page_turnover.specs.Words.{words}
 use Rattle.page_turnover.specs.Steps.{Keeps, CommitsTurn}
@@ -34,8 +35,7 @@ take_next ws at l = sym (take_more ws at 0 l)
 -- one word more of a change
 pub words_more : (old new first : List ℕ) (change : Change) (at word : ℕ) → words old ≡ first ++ take at (words_of change) → at < length (words_of change) → word ≡ get_or (words_of change) at 0 → words new ≡ words old ++ word ∷ []
     → words new ≡ first ++ take (at + 1) (words_of change)
-words_more old new first change at word e l w n =
-    n ∙ rw (e, w) (append_assoc first (take at (words_of change)) (get_or (words_of change) at 0 ∷ []) ∙ ap (λ (t : List ℕ). first ++ t) (take_next (words_of change) at l))
+words_more old new first change at word h1 h2 h3 h4 = grind (arith, common_steps, take_next)
 
 begun : (image first : List ℕ) (change : Change) (at : ℕ) → IsChange change → words image ≡ first ++ take at (words_of change) → at < length (words_of change) → changes_in (words image) ≡ changes_in first
 begun image first change at c e l = rw e (absent first change at c l)

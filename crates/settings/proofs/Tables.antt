@@ -1,6 +1,6 @@
 -- Tables of values.
 use Rattle.std.proofs.lemmas.Grind.{common_steps}
-use Rattle.std.proofs.Common.{◌≡◌, ◌≢◌, ◌∙◌, ℕ, zero, suc, ◌+◌, ◌^◌, ◌<◌, ◌≤◌, ◌-◌, refl, sym, ap, arith, List, [], ◌∷◌, ◌++◌, length, take, drop, set, get_or, Option, Some, None, inl, inr, ◌==◌}
+use Rattle.std.proofs.Common.{◌≡◌, ◌≢◌, ◌∙◌, ℕ, zero, suc, ◌+◌, ◌^◌, ◌<◌, ◌≤◌, ◌-◌, refl, sym, arith, List, [], ◌∷◌, ◌++◌, length, take, drop, set, get_or, Option, Some, None, inl, inr, ◌==◌}
 use Rattle.std.proofs.lemmas.Bool.{cases_Bool, cases_lt, eq-eqb, ne_eqb}
 use Rattle.std.proofs.lemmas.List.{take_more, take_more_set, take_all, length-set}
 use Rattle.settings.specs.declared.change.Change.{Change}
@@ -35,20 +35,12 @@ own-other entry id n = rw (ne_eqb entry.id id n) refl
 
 pub own-free : (entry : Change) (id : ℕ) → entry.value ≡ None → own entry id ≡ None
 unfolding kept
-own-free entry id e =
-    elim (cases_Bool (entry.id == id)) [
-      | inl m ↦ rw (m, e) refl
-      | inr m ↦ rw m refl
-    ]
+own-free entry id h1 = grind (arith, common_steps, cases_Bool)
 
 -- the first entry, and the others
 pub kept-first : (entry : Change) (rest : List Change) (id : ℕ) → kept (entry ∷ rest) id ≡ value_or (own entry id) (kept rest id)
 unfolding kept
-kept-first entry rest id =
-    elim (cases_Bool (entry.id == id)) [
-      | inl m ↦ rw (m, or_none entry.value) refl
-      | inr m ↦ rw m refl
-    ]
+kept-first entry rest id = grind (arith, common_steps, cases_Bool, or_none)
 
 -- an entry more
 pub kept-last : (table : List Change) (entry : Change) (id : ℕ) → kept (table ++ entry ∷ []) id ≡ value_or (kept table id) (own entry id)
@@ -191,13 +183,7 @@ nothing_left : (values : ℕ → Option (List ℕ)) (from : ℕ) (entry : Change
 nothing_left values from entry h1 h2 = grind (arith, common_steps)
 
 pub filled_all : (values : ℕ → Option (List ℕ)) (table : List Change) (at from : ℕ) (entry : Change) → length table ≤ at → Filled values table at from → IsEntry values from entry → entry.value ≡ None → (id : ℕ) → id < 2 ^ 16 → kept table id ≡ values id
-filled_all values table at from entry l f n e id b =
-    let none = nothing_left values from entry n e in
-    let whole : take at table ≡ table = take_all at table l in
-    elim (cases_lt id from) [
-      | inl m ↦ rw whole at (f.same id m)
-      | inr m ↦ (rw whole at (f.none id m)) ∙ sym (none id m b)
-    ]
+filled_all values table at from entry h1 h2 h3 h4 id h5 = grind (arith, common_steps, nothing_left, take_all, cases_lt)
 
 pub filled_fits : (values : ℕ → Option (List ℕ)) (table : List Change) (at from : ℕ) (entry : Change) → length table ≤ at → Filled values table at from → IsEntry values from entry → entry.value ≡ None → ids_below values (2 ^ 16) ≤ length table
 filled_fits values table at from entry l f n e =
@@ -259,13 +245,10 @@ pub front : (table : List Change) (entry d : Change) → 1 ≤ length table → 
 front table entry d h1 h2 = grind (arith, common_steps)
 
 pub front_value : (table : List Change) (entry d : Change) (id : ℕ) (bytes : List ℕ) → 1 ≤ length table → entry ≡ get_or table 0 d → entry.id ≡ id → entry.value ≡ Some bytes → kept table id ≡ Some bytes
-front_value table entry d id bytes l e i v =
-    ap (λ (t : List Change). kept t id) (front table entry d l e) ∙ kept-first entry (take (length table - 1) (drop 1 table)) id ∙ rw (own-is entry id i, v) refl
+front_value table entry d id bytes h1 h2 h3 h4 = grind (arith, common_steps, front, kept-first, own-is)
 
 pub front_other : (table : List Change) (entry d : Change) (id : ℕ) → 1 ≤ length table → entry ≡ get_or table 0 d → own entry id ≡ None → kept (take (length table - 1) (drop 1 table)) id ≡ kept table id
-front_other table entry d id l e o =
-    sym (ap (λ (t : List Change). kept t id) (front table entry d l e) ∙ kept-first entry (take (length table - 1) (drop 1 table)) id ∙ rw o refl)
+front_other table entry d id h1 h2 h3 = grind (arith, common_steps, front, kept-first)
 
 pub nothing_kept : (table : List Change) (id : ℕ) → length table < 1 → kept table id ≡ None
-nothing_kept [] id l = kept-none id
-nothing_kept (entry ∷ rest) id l = absurd (omega arith)
+nothing_kept table id h1 = grind (arith, common_steps, kept-none)

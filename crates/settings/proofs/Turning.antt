@@ -5,7 +5,7 @@ use Rattle.std.proofs.lemmas.Bool.{cases_lt}
 use Rattle.std.proofs.lemmas.List.{append-nil, length-append}
 use Rattle.page_turnover.specs.declared.log.stepping.Step.{Step}
 use Rattle.page_turnover.specs.declared.log.stepping.Step.TheVariants.{Moved, Committed}
-use Rattle.page_turnover.specs.Value.{LogValue, Target, Unread, Holds, Task, Rest, Append, Wait, Copy, Seal}
+use Rattle.page_turnover.specs.Value.{LogValue, Target, Unread, Task, Rest, Append, Wait, Copy, Seal}
 use Rattle.page_turnover.specs.representation.Log.{Describes}
 use Rattle.page_turnover.specs.representation.Turn.{UnderWay}
 use Rattle.page_turnover.specs.Turn.{copies, offered, copied, target_page, IsWaiting, IsPending, CanOffer, HasShortWord, with_copy, with_seal}
@@ -42,9 +42,7 @@ after_move : (task : Task) (old : List ℕ) (before : LogValue) (new : List ℕ)
 after_move task old before new after h1 h2 h3 = grind (arith, common_steps)
 
 moved_step : (old : List ℕ) (log : LogValue) (step : Step) (new : List ℕ) (after : LogValue) → IsTurn log.task → step ≡ Moved → EndsAs old log step new after → Moves old log.task new after.task → IsAfter old new log.task after.task
-moved_step old log step new after t e ends m =
-    let S : Step → Type 0 = λ x. Steps old log x new after in
-    after_move log.task old log new after t (subst S e (ends.done (λ f. cc))) m
+moved_step old log step new after h1 h2 h3 h4 = grind (arith, common_steps, after_move)
 
 -- a compaction that goes on
 pub still_turning : (old : List ℕ) (changes : List Change) (log : LogValue) (from at : ℕ) (step : Step) (new : List ℕ) (after : LogValue) → IsTurning old changes log from at → step ≡ Moved → EndsAs old log step new after → Moves old log.task new after.task → IsTurning new changes after from at
@@ -76,8 +74,7 @@ turned_values old changes log from at new j c = values_for log.task old changes 
 -- what a compaction has left, after each of its operations
 pub erases_left-ready : (image : List ℕ) (target : Target) → IsReady image target → erases_left image target ≡ 0
 unfolding erases_left
-erases_left-ready image Unread r = rw (is_blank-blank image (target_page image) r) refl
-erases_left-ready image (Holds n) r = refl
+erases_left-ready image target h1 = grind (arith, common_steps, is_blank-blank)
 
 pub erases_left-used : (image : List ℕ) → (IsBlank image (target_page image) → ⊥) → erases_left image Unread ≡ 1
 unfolding erases_left
@@ -89,34 +86,7 @@ erases_left-most image target = grind (arith, common_steps)
 
 left_moved : (task : Task) (old : List ℕ) (changes : List Change) (before : LogValue) (new : List ℕ) (after : LogValue) → alive new changes ≡ alive old changes → IsTurn task → UnderWay old task → length (copies old task ++ offered task) ≤ alive old changes → StepsFor task old before Moved new after
     → turn_left new changes (target_of after.task) + 1 ≡ turn_left old changes (target_of task)
-left_moved Rest old changes before new after v t u l s = absurd t
-left_moved (Append word) old changes before new after v t u l s = absurd t
-left_moved (Wait target) old changes before new after v t u l s = let f = s.answer in cc
-left_moved (Copy target word) old changes before new after v t u l s =
-    let P : Task → Type 0 = λ x. turn_left new changes (target_of x) + 1 ≡ turn_left old changes target in
-    elim s [
-      | inl a ↦ (let e : after.task ≡ Copy (Holds 0) word = rw a.next refl in
-          let o : erases_left old target ≡ 1 = rw a.unread (erases_left-used old a.used) in
-          let c : copied target ≡ 0 = rw a.unread refl in
-          let z : erases_left new (Holds 0) ≡ 0 = erases_left-ready new (Holds 0) tt in
-          subst P (sym e) (omega arith))
-      | inr a ↦ (let e : after.task ≡ Wait (Holds (copied target + 1)) = rw a.next refl in
-          let o : erases_left old target ≡ 0 = erases_left-ready old target a.ready in
-          let z : erases_left new (Holds (copied target + 1)) ≡ 0 = erases_left-ready new (Holds (copied target + 1)) tt in
-          let j : length (copies old (Copy target word) ++ word ∷ []) ≡ length (copies old (Copy target word)) + 1 = length-append (copies old (Copy target word)) (word ∷ []) in
-          let i : length (copies old (Wait target)) ≡ copied target = waiting_count old target u.turning.target_is in
-          subst P (sym e) (omega arith))
-    ]
-left_moved (Seal target) old changes before new after v t u l s =
-    let P : Task → Type 0 = λ x. turn_left new changes (target_of x) + 1 ≡ turn_left old changes target in
-    elim s [
-      | inl a ↦ (let e : after.task ≡ Seal (Holds 0) = rw a.next refl in
-          let o : erases_left old target ≡ 1 = rw a.unread (erases_left-used old a.used) in
-          let c : copied target ≡ 0 = rw a.unread refl in
-          let z : erases_left new (Holds 0) ≡ 0 = erases_left-ready new (Holds 0) tt in
-          subst P (sym e) (omega arith))
-      | inr a ↦ (let f = a.answer in cc)
-    ]
+left_moved task old changes before new after h1 h2 h3 h4 h5 = grind (arith, common_steps, erases_left-used, erases_left-ready, length-append, waiting_count, turning)
 
 pub turn_moved_left : (old : List ℕ) (changes : List Change) (log : LogValue) (from at : ℕ) (step : Step) (new : List ℕ) (after : LogValue) → IsTurning old changes log from at → Describes old log → step ≡ Moved → EndsAs old log step new after → Keeps old new
     → turn_left new changes (target_of after.task) + 1 ≡ turn_left old changes (target_of log.task)
@@ -127,20 +97,7 @@ turn_moved_left old changes log from at step new after j d e ends k =
     left_moved log.task old changes log new after v j.of_turn d.task_is few (subst S e (ends.done (λ f. cc)))
 
 left_committed : (task : Task) (old : List ℕ) (changes : List Change) (before : LogValue) (new : List ℕ) (after : LogValue) → IsTurn task → UnderWay old task → (IsSeal task → copies old task ≡ all_copies (changed old changes)) → StepsFor task old before Committed new after → turn_left old changes (target_of task) ≡ 1
-left_committed Rest old changes before new after t u l s = absurd t
-left_committed (Append word) old changes before new after t u l s = absurd t
-left_committed (Wait target) old changes before new after t u l s = let f = s.answer in cc
-left_committed (Copy target word) old changes before new after t u l s = elim s [
-  | inl a ↦ (let f = a.answer in cc)
-  | inr a ↦ (let f = a.answer in cc)
-]
-left_committed (Seal target) old changes before new after t u l s = elim s [
-  | inl a ↦ (let f = a.answer in cc)
-  | inr a ↦ (let o : erases_left old target ≡ 0 = erases_left-ready old target a.ready in
-      let i : length (copies old (Wait target)) ≡ copied target = waiting_count old target u.target_is in
-      let n : length (copies old (Seal target)) ≡ alive old changes = rw (l tt) refl in
-      omega arith)
-]
+left_committed task old changes before new after h1 h2 h3 h4 = grind (arith, common_steps, erases_left-ready, waiting_count)
 
 pub turn_last_left : (old : List ℕ) (changes : List Change) (log : LogValue) (from at : ℕ) (step : Step) (new : List ℕ) (after : LogValue) → IsTurning old changes log from at → Describes old log → step ≡ Committed → EndsAs old log step new after
     → turn_left old changes (target_of log.task) ≡ 1

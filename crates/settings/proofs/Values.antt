@@ -1,6 +1,6 @@
 -- Each id has a value or none, whatever the words and the changes are.
 use Rattle.std.proofs.lemmas.Grind.{common_steps}
-use Rattle.std.proofs.Common.{◌≡◌, ℕ, zero, suc, ◌/◌, ◌%◌, ◌^◌, ◌<◌, ◌≤◌, refl, arith, List, [], ◌∷◌, ◌++◌, length, take, Option, Some, None, nat_le, inl, inr, ◌==◌, ◌&&◌}
+use Rattle.std.proofs.Common.{◌≡◌, ℕ, zero, suc, ◌/◌, ◌%◌, ◌^◌, ◌<◌, ◌≤◌, arith, List, [], ◌∷◌, ◌++◌, length, take, Option, Some, None, nat_le, inl, inr, ◌==◌, ◌&&◌}
 use Rattle.std.proofs.lemmas.Bool.{cases_Bool, and_parts}
 use Rattle.std.proofs.lemmas.List.{length-take-le}
 use Rattle.page_turnover.proofs.Describing.{le_of}
@@ -41,9 +41,7 @@ word_are_bytes : (word : ℕ) → AreBytes (word_bytes word)
 word_are_bytes word = grind (arith, common_steps)
 
 taken_value : (len : ℕ) (bytes : List ℕ) → len ≤ 64 → len ≤ length bytes → AreBytes bytes → IsValueIfSome (Some (take len bytes))
-taken_value len bytes few l h =
-    let n : length (take len bytes) ≡ len = length-take-le len bytes l in
-    record { short = omega (arith, n); bytes_are = bytes_taken len bytes h }
+taken_value len bytes h1 h2 h3 = grind (arith, common_steps, length-take-le, bytes_taken)
 
 gathered_value : (len : ℕ) (bytes words : List ℕ) → len ≤ 64 → AreBytes bytes → IsValueIfSome (gathered len bytes words)
 unfolding gathered
@@ -68,25 +66,16 @@ IsHead (Some head) = (head.id < 2 ^ 16) × ((len : ℕ) → head.len ≡ Some le
 
 head_small : (word : ℕ) → IsHead (head_of word)
 unfolding head_of
-head_small word =
-    elim (cases_Bool ((word / 2 ^ 24 == 113) && nat_le (word / 2 ^ 16 % 2 ^ 8) 64)) [
-      | inl e ↦ rw e (omega arith, λ len f. (let p = le_of (word / 2 ^ 16 % 2 ^ 8) 64 (and_parts _ _ e).1 in let q : word / 2 ^ 16 % 2 ^ 8 ≡ len = cc in omega (arith, p, q)))
-      | inr e ↦ elim (cases_Bool ((word / 2 ^ 24 == 112) && (word / 2 ^ 16 % 2 ^ 8 == 0))) [
-        | inl f ↦ rw (e, f) (omega arith, λ len g. cc)
-        | inr f ↦ rw (e, f) tt
-      ]
-    ]
+head_small word = grind (arith, common_steps, cases_Bool, le_of, and_parts)
 
 given_such : (id : ℕ) (value : Option (List ℕ)) → id < 2 ^ 16 → IsValueIfSome value → AreSuch (given id value)
 given_such id value h1 h2 = grind (arith, common_steps)
 
 with_such : (id : ℕ) (len : Option ℕ) (words : List ℕ) → id < 2 ^ 16 → ((n : ℕ) → len ≡ Some n → n ≤ 64) → AreSuch (change_with id len words)
-with_such id None words l few = (record { small = l; value_is = tt }, tt)
-with_such id (Some n) words l few = given_such id (gathered n [] words) l (gathered_value n [] words (few n refl) (λ k. omega arith))
+with_such id len words h1 h2 = grind (arith, common_steps, given_such, gathered_value)
 
 at_such : (head : Option Head) (words : List ℕ) → IsHead head → AreSuch (change_at head words)
-at_such None words h = tt
-at_such (Some head) words h = with_such head.id head.len words h.0 h.1
+at_such head words h1 = grind (arith, common_steps, with_such)
 
 in_such : (ws : List ℕ) → AreSuch (changes_in ws)
 in_such [] = rw changes_in-none tt

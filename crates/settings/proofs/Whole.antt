@@ -6,15 +6,14 @@ use Rattle.settings.specs.declared.change.Change.{Change}
 use Rattle.settings.specs.declared.store.SettingsError.{SettingsError}
 use Rattle.settings.specs.declared.store.SettingsError.TheVariants.{Fault}
 use Rattle.settings.specs.declared.store.Job.{Job}
-use Rattle.settings.specs.declared.store.Job.TheVariants.{Resting, Appending, Turning}
-use Rattle.settings.specs.Words.{words_of, IsValue, IsValueIfSome}
+use Rattle.settings.specs.Words.{IsValue, IsValueIfSome}
 use Rattle.settings.specs.Settings.{changes_in, settings_of, changed, Same}
 use Rattle.settings.specs.Begins.{IsRefused, IsAccepted}
-use Rattle.settings.specs.Left.{left, first_words, Needs}
+use Rattle.settings.specs.Left.{left, Needs}
 use Rattle.settings.specs.Moments.{IsOperation, IsFault, AtEachMoment, begins, goes_on}
 use Rattle.settings.specs.Store.{SettingsValue, IsBusy}
 use Rattle.settings.specs.Works.{IsBeforeOrAfter, IsBetween, GoesTo, WritesMore, WritesLast, HasMade, Stores}
-use Rattle.settings.specs.representation.Store.{Relation, IsAppending, AreChanges}
+use Rattle.settings.specs.representation.Store.{Relation, AreChanges}
 use Rattle.settings.specs.representation.Whole.{Makes, SoFar}
 use Rattle.std.proofs.lemmas.Bool.{cases_eq}
 use Rattle.std.proofs.lemmas.List.{append-nil}
@@ -27,23 +26,14 @@ use Rattle.settings.proofs.Written.{written_none, written_step}
 
 -- never more than an erase, 511 words and a header
 few_for : (job : Job) (image : List ℕ) (changes : List Change) (settings : SettingsValue) → settings.job ≡ job → Relation image changes settings → left image changes settings ≤ 513
-few_for Resting image changes settings e s = rw e (omega arith)
-few_for (Appending at) image changes settings e s =
-    let a : IsAppending image changes settings.log at = rw e at s.job_is in
-    let l = a.room in
-    let f : first_words changes ≡ length (words_of a.change) = rw a.one refl in
-    rw e (omega (arith, l, f))
-few_for (Turning from at) image changes settings e s =
-    let j = rw e at s.job_is in
-    rw e (few_turn image changes _ j.fits)
+few_for job image changes settings h1 h2 = grind (arith, common_steps, few_turn)
 
 pub few_left : (image : List ℕ) (changes : List Change) (settings : SettingsValue) → Relation image changes settings → left image changes settings ≤ 513
 few_left image changes settings s = few_for settings.job image changes settings refl s
 
 -- values that are the same as others, which are those before the changes
 both : (old middle : List ℕ) (changes : List Change) (new : List ℕ) → Same (settings_of middle) (settings_of old) → IsBeforeOrAfter middle changes new → IsBeforeOrAfter old changes new
-both old middle changes new k (inl s) = inl (λ id l. s id l ∙ k id l)
-both old middle changes new k (inr s) = inr (λ id l. s id l ∙ changed_same old middle changes k id l)
+both old middle changes new h1 h2 = grind (arith, common_steps, changed_same)
 
 between_none : (image : List ℕ) (changes : List Change) → IsBetween image changes image
 between_none image changes = record { values = inl (λ id l. refl); usable = λ u. u; known = λ h. h }
@@ -126,11 +116,7 @@ nothing_left job image changes settings h1 h2 = grind (arith, common_steps)
 -- by as many operations as were needed
 pub count_all : {F : Type 0} (image : F → List ℕ) (operations : F → ℕ) (operates : F → FlashOperation → F → Type 0) (is_faultless : F → Type 0) (changes : List Change) (old : F) (settings : SettingsValue) (new : F)
     → SoFar image operations operates is_faultless changes (left (image new) changes settings) old settings new → (IsBusy settings.job → ⊥) → HasMade (Needs (image old) changes) (operations old) (operations new)
-count_all image operations operates is_faultless changes old settings new s b =
-    let z : left (image new) changes settings ≡ 0 = nothing_left settings.job (image new) changes settings refl b in
-    let all = s.all in
-    let e : s.count ≡ s.needed = omega arith in
-    record { count = s.count; is = rw e s.needs; counted = s.counted }
+count_all image operations operates is_faultless changes old settings new h1 h2 = grind (arith, common_steps, nothing_left)
 
 -- a step failed
 pub stores_none : {F T : Type 0} (image : F → List ℕ) (operations faults : F → ℕ) (operates : F → FlashOperation → F → Type 0) (is_faultless : F → Type 0) (changes : List Change) (failed : Bool) (first last : ℕ) (old : F) (before : SettingsValue) (middle : F) (new : F)

@@ -1,6 +1,6 @@
 -- Where changes are written, step by step.
 use Rattle.std.proofs.lemmas.Grind.{common_steps}
-use Rattle.std.proofs.Common.{◌≡◌, ◌∙◌, ℕ, ◌+◌, ◌<◌, ◌≤◌, refl, ap, subst, arith, List, [], ◌∷◌, ◌++◌, length, take, get_or, Some, inl, inr, append_assoc}
+use Rattle.std.proofs.Common.{◌≡◌, ◌∙◌, ℕ, ◌+◌, ◌<◌, ◌≤◌, refl, ap, subst, arith, List, [], ◌∷◌, ◌++◌, length, take, get_or, inl, inr, append_assoc}
 use Rattle.std.proofs.lemmas.Bool.{cases_lt}
 use Rattle.std.proofs.lemmas.List.{take_all}
 use Rattle.flash_model.specs.Image.{page_count}
@@ -8,10 +8,10 @@ use Rattle.page_turnover.specs.declared.log.stepping.Step.{Step}
 use Rattle.page_turnover.specs.declared.log.stepping.Step.TheVariants.{Committed}
 use Rattle.page_turnover.specs.Active.{active}
 use Rattle.page_turnover.specs.Operates.{Operates}
-use Rattle.page_turnover.specs.Steps.{Keeps, Commits, CommitsWord, EndsAs, Steps, StepsFor}
-use Rattle.page_turnover.specs.Turn.{copies, copied, target_page, next_seq}
+use Rattle.page_turnover.specs.Steps.{Keeps, Commits, CommitsWord, EndsAs, StepsFor}
+use Rattle.page_turnover.specs.Turn.{copies, target_page, next_seq}
 use Rattle.page_turnover.specs.Usable.{IsUsable}
-use Rattle.page_turnover.specs.Value.{LogValue, Task, Rest, Append, Wait, Copy, Seal}
+use Rattle.page_turnover.specs.Value.{LogValue, Task, Append}
 use Rattle.page_turnover.specs.Words.{words}
 use Rattle.page_turnover.specs.representation.Log.{Describes}
 use Rattle.page_turnover.specs.representation.Turn.{UnderWay}
@@ -25,7 +25,6 @@ use Rattle.settings.specs.declared.store.Work.TheVariants.{Working, Stored}
 use Rattle.settings.specs.Words.{words_of}
 use Rattle.settings.specs.Settings.{changed}
 use Rattle.settings.specs.Copies.{all_copies}
-use Rattle.settings.specs.Begins.{alive}
 use Rattle.settings.specs.Places.{own_words, Adds, IsCompacted, AreWritten}
 use Rattle.settings.specs.Store.{IsBusy}
 use Rattle.settings.specs.Works.{IsBetween, IsBeforeOrAfter, GoesTo, Writes, WritesMore, WritesLast}
@@ -81,24 +80,10 @@ pub writes_moved : (old : List ℕ) (changes : List Change) (before : Job) (from
 writes_moved old changes before from at new after next_from next_at b k o e = rw (b, e) (k, target_same old new k.active_is (pages_same old new o), tt)
 
 compacted_for : (task : Task) (old : List ℕ) (changes : List Change) (before : LogValue) (new : List ℕ) (after : LogValue) → IsTurn task → UnderWay old task → (IsSeal task → copies old task ≡ all_copies (changed old changes)) → Describes new after → StepsFor task old before Committed new after → Commits old task new → IsCompacted old changes new
-compacted_for Rest old changes before new after t u l d s c = absurd t
-compacted_for (Append word) old changes before new after t u l d s c = absurd t
-compacted_for (Wait target) old changes before new after t u l d s c = absurd c
-compacted_for (Copy target word) old changes before new after t u l d s c = absurd c
-compacted_for (Seal target) old changes before new after t u l d s c = elim s [
-  | inl a ↦ (let f = a.answer in cc)
-  | inr a ↦ (let e : after.active ≡ Some (record { page = target_page old; seq = next_seq old; format = 2; tail = copied target + 1 }) = rw a.next refl in
-      let held = held_active new after _ d e in
-      let i : length (copies old (Wait target)) ≡ copied target = waiting_count old target u.target_is in
-      let n : length (copies old (Seal target)) ≡ alive old changes = rw (l tt) refl in
-      let m : copied target + 1 ≡ 1 + alive old changes = omega arith in
-      record { is_active = c.active_is; format_is = c.format_is; words_are = c.words_are ∙ l tt; is_tail = rw m at held.is_tail })
-]
+compacted_for task old changes before new after h1 h2 h3 h4 h5 h6 = grind (arith, common_steps, held_active, waiting_count)
 
 pub compacts : (old : List ℕ) (changes : List Change) (log : LogValue) (from at : ℕ) (step : Step) (new : List ℕ) (after : LogValue) → IsTurning old changes log from at → Describes old log → step ≡ Committed → EndsAs old log step new after → Commits old log.task new → IsCompacted old changes new
-compacts old changes log from at step new after j d e ends c =
-    let S : Step → Type 0 = λ x. Steps old log x new after in
-    compacted_for log.task old changes log new after j.of_turn d.task_is j.all ends.describes (subst S e (ends.done (λ f. cc))) c
+compacts old changes log from at step new after h1 h2 h3 h4 h5 = grind (arith, common_steps, compacted_for)
 
 pub writes_turn : (old : List ℕ) (changes : List Change) (before : Job) (from at : ℕ) (new : List ℕ) (after : Job) → before ≡ Turning from at → IsCompacted old changes new → Writes before Stored old changes new after
 writes_turn old changes before from at new after b c = rw b c
@@ -121,18 +106,10 @@ written_more : (old middle new : List ℕ) (changes : List Change) (before after
 written_more old middle new changes before after h1 h2 = grind (arith, common_steps)
 
 compacted_from : (old middle new : List ℕ) (changes : List Change) → Keeps old middle → target_page middle ≡ target_page old → IsCompacted middle changes new → IsCompacted old changes new
-compacted_from old middle new changes k t c =
-    let v : changed middle changes ≡ changed old changes = changed_kept old middle changes k in
-    let n : next_seq middle ≡ next_seq old = next_same old middle k.active_is in
-    record { is_active = c.is_active ∙ rw (t, n) refl; format_is = c.format_is; words_are = c.words_are ∙ rw v refl; is_tail = rw (t, v) at c.is_tail }
+compacted_from old middle new changes h1 h2 h3 = grind (arith, common_steps, changed_kept, next_same)
 
 written_last : (old middle new : List ℕ) (changes : List Change) (before : Job) → WrittenSoFar old changes before middle → WritesLast before middle changes new → AreWritten old changes new
-written_last old middle new changes Resting s m = absurd m
-written_last old middle new changes (Appending at) s m =
-    let l = m.1 in
-    let all : take (at + 1) (own_words changes) ≡ own_words changes = take_all (at + 1) (own_words changes) (omega arith) in
-    record { appended = λ a. rw all at (adds_next old middle new (own_words changes) at (omega arith) s.1 m.0); compacted = λ n. absurd (n s.0) }
-written_last old middle new changes (Turning from at) s m = record { appended = λ a. absurd (s.0 a); compacted = λ n. compacted_from old middle new changes s.1 s.2 m }
+written_last old middle new changes before h1 h2 = grind (arith, common_steps, take_all, adds_next, compacted_from)
 
 pub written_step : (old middle new : List ℕ) (changes : List Change) (before after : Job) → WrittenSoFar old changes before middle → (IsBusy after → WritesMore before middle changes new after) → ((IsBusy after → ⊥) → WritesLast before middle changes new) → WrittenSoFar old changes after new
 written_step old middle new changes before Resting s more last = written_last old middle new changes before s (last (λ b. b))
