@@ -1,5 +1,5 @@
 -- What a healthy flash is sure to program is what the adapter programs.
-use Rattle.std.proofs.Common.{◌≡◌, ℕ, ◌+◌, ◌*◌, ◌<◌, ◌&&◌, zero, suc, true, Some, List, get_or, nat_lt, arith, sym, ◌∙◌, refl}
+use Rattle.std.proofs.Common.{◌≡◌, ℕ, ◌+◌, ◌*◌, ◌<◌, ◌&&◌, zero, suc, true, Some, List, get_or, nat_lt, arith, sym, ◌∙◌, refl, ◌⊎◌, inl, inr}
 use Rattle.std.specs.Cmp.Lexicographic.{bytes_decides}
 use Rattle.std.proofs.lemmas.Bool.{lt-ltb}
 use Rattle.std.proofs.lemmas.Grind.{same_number_lists}
@@ -35,3 +35,8 @@ short_word u w =
 pub erased_slot_in : (units : ℕ → ℕ → WriteUnit) (n p s : ℕ) (bytes : List ℕ) → AllKept units n → p < n → s < 512 → IsAssured (image_of units n) p s bytes → slot_in units p s ≡ blank
 unfolding blank
 erased_slot_in units n p s bytes k l m a = sym (slot_is units n p s k l m) ∙ a.erased
+
+-- it programs nothing else
+pub no_other : {A : Type 0} → A ⊎ ⊥ → A
+no_other (inl a) = a
+no_other (inr none) = absurd none

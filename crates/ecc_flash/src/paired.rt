@@ -1,6 +1,6 @@
 //! The adapter: each slot in two write units.
 
-ghost use Rattle.std.specs.Prelude.{◌≡◌, true, ◌+◌, ◌*◌, ◌%◌, ◌^◌, ◌<◌, ◌≤◌, ℕ, ◌↔◌, Some, IsOk, IsTrue, MatchResult, IfOk, is_ok, if◌then◌else◌, List};
+ghost use Rattle.std.specs.Prelude.{◌≡◌, ◌⊎◌, true, ◌+◌, ◌*◌, ◌%◌, ◌^◌, ◌<◌, ◌≤◌, ℕ, ◌↔◌, Some, IsOk, IsTrue, MatchResult, IfOk, is_ok, if◌then◌else◌, List};
 ghost use Rattle.flash_model.specs.Image.{page_count, slot_at, IsImage};
 ghost use Rattle.flash_model.specs.Assured.{IsAssured};
 ghost use Rattle.flash_model.specs.Operations.{Programs, MayProgram, Erases, MayErase};
@@ -119,7 +119,9 @@ impl<F: EccFlash + Drop> NorFlash for PairedFlash<F> {
 
     ghost faults = { λ s. s.2 };
 
-    ghost is_faultless = { λ s. F.is_healthy s.0 };
+    ghost takes_also = { λ s page slot bytes. ⊥ };
+
+    ghost is_faultless = { λ s n. F.is_healthy s.0 };
 
     ghost operates = { λ old operation new. PairOperates F.units F.operates old.0 operation new.0 };
 
@@ -149,7 +151,7 @@ impl<F: EccFlash + Drop> NorFlash for PairedFlash<F> {
         ensures same_pages { page_count (image_of (F.units self.new.0) (F.page_total self.new.0)) ≡ page_count (image_of (F.units self.old.0) (F.page_total self.old.0)) }
         ensures counted { self.new.1 ≡ (self.old.1 + 1) % 2 ^ 64 }
         ensures faulted { self.new.2 ≡ (if is_ok result then self.old.2 else (self.old.2 + 1) % 2 ^ 64) }
-        ensures faultless { F.is_healthy self.old.0 → IsAssured (image_of (F.units self.old.0) (F.page_total self.old.0)) page slot bytes → IsOk result × F.is_healthy self.new.0 }
+        ensures faultless { (n : ℕ) → F.is_healthy self.old.0 → IsAssured (image_of (F.units self.old.0) (F.page_total self.old.0)) page slot bytes ⊎ ⊥ → IsOk result × F.is_healthy self.new.0 }
         ensures operated { PairOperates F.units F.operates self.old.0 (programs page slot bytes) self.new.0 }
         ensures marked { is_word bytes ≡ true → F.takes self.old.0 page (2 * slot + 1) → slot_in (F.units self.new.0) page slot ≡ blank → ⊥ }
     {

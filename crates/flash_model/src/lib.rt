@@ -10,7 +10,7 @@
 //! `page_turnover` and what stands on it write through it, and `world` runs on a `SimFlash`.
 #![tactic(auto)]
 
-ghost use Rattle.std.specs.Prelude.{◌≡◌, ◌+◌, ◌%◌, ◌^◌, ◌<◌, ℕ, List, IsOk, MatchResult, is_ok, if◌then◌else◌};
+ghost use Rattle.std.specs.Prelude.{◌≡◌, ◌⊎◌, ◌+◌, ◌%◌, ◌^◌, ◌<◌, ℕ, List, IsOk, MatchResult, is_ok, if◌then◌else◌};
 ghost use Rattle.flash_model.specs.Image.{slot_at, page_count, IsImage};
 ghost use Rattle.flash_model.specs.Assured.{IsAssured};
 ghost use Rattle.flash_model.specs.FlashOperation.{FlashOperation, programs, erases};
@@ -48,10 +48,13 @@ pub trait NorFlash {
     /// How many of them were torn, modulo 2^64.
     ghost faults: { Self → ℕ };
 
-    /// From here on no erase fails, and no program of an erased slot with a word whose bit 31 is clear:
-    /// what else is programmed a flash with error correction may refuse. Of hardware nothing makes
-    /// this hold.
-    ghost is_faultless: { Self → Type 0 };
+    /// A healthy flash makes this program of a slot of a page too. Each one programs an erased slot with
+    /// a word whose bit 31 is clear; what else, a flash with error correction may refuse.
+    ghost takes_also: { Self → ℕ → ℕ → List ℕ → Type 0 };
+
+    /// Of the next so many operations, erases and programs that it takes, none fails. A flash may end,
+    /// so each operation uses up one of them. Of hardware nothing makes this hold.
+    ghost is_faultless: { Self → ℕ → Type 0 };
 
     /// This program or erase makes the second flash of the first. What it says beside `image` and the
     /// counts is each flash's own: of a simulated one, by which mask it was torn.
@@ -88,7 +91,7 @@ pub trait NorFlash {
         ensures same_pages { page_count (image self.new) ≡ page_count (image self.old) }
         ensures counted { operations self.new ≡ (operations self.old + 1) % 2 ^ 64 }
         ensures faulted { faults self.new ≡ (if is_ok result then faults self.old else (faults self.old + 1) % 2 ^ 64) }
-        ensures faultless { is_faultless self.old → IsAssured (image self.old) page slot bytes → IsOk result × is_faultless self.new }
+        ensures faultless { (n : ℕ) → is_faultless self.old (n + 1) → IsAssured (image self.old) page slot bytes ⊎ takes_also self.old page slot bytes → IsOk result × is_faultless self.new n }
         ensures operated { operates self.old (programs page slot bytes) self.new };
 
     /// Sets every bit of page `page`, below `pages()`; no other page is touched.
@@ -104,6 +107,6 @@ pub trait NorFlash {
         ensures same_pages { page_count (image self.new) ≡ page_count (image self.old) }
         ensures counted { operations self.new ≡ (operations self.old + 1) % 2 ^ 64 }
         ensures faulted { faults self.new ≡ (if is_ok result then faults self.old else (faults self.old + 1) % 2 ^ 64) }
-        ensures faultless { is_faultless self.old → IsOk result × is_faultless self.new }
+        ensures faultless { (n : ℕ) → is_faultless self.old (n + 1) → IsOk result × is_faultless self.new n }
         ensures operated { operates self.old (erases page) self.new };
 }

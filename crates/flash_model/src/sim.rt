@@ -1,10 +1,11 @@
 //! A flash in memory, for runs without hardware.
 
-ghost use Rattle.std.specs.Prelude.{◌≡◌, ◌≢◌, None, Some, IsNone, IsErr, MatchOption, ◌+◌, ◌*◌, ◌%◌, ◌^◌, ◌<◌, ◌≤◌, ◌↔◌, ℕ, ◌⊎◌, List, length, IfOk, IsOk, OnErr, MatchResult, is_ok, if◌then◌else◌, replicate, slice_index, bit_and};
+ghost use Rattle.std.specs.Prelude.{◌≡◌, ◌≢◌, None, Some, IsNone, IsErr, MatchOption, ◌+◌, ◌*◌, ◌%◌, ◌^◌, ◌<◌, ◌≤◌, ◌↔◌, ℕ, ◌⊎◌, ⊤, List, length, IfOk, IsOk, OnErr, MatchResult, is_ok, if◌then◌else◌, replicate, slice_index, bit_and};
 ghost use Rattle.std.specs.Cmp.Rules.{comparing};
 ghost use Rattle.std.proofs.Common.{rules};
 ghost use Rattle.flash_model.specs.declared.TheConstants.{PAGE_SLOTS};
 ghost use Rattle.flash_model.specs.Image.{slot_at, page_count, IsImage};
+ghost use Rattle.flash_model.specs.Assured.{IsAssured};
 ghost use Rattle.flash_model.specs.ByMask.{ProgramsByMask, ErasesByMask};
 ghost use Rattle.flash_model.specs.FlashOperation.{programs, erases};
 ghost use Rattle.flash_model.specs.Operated.{IsOperated};
@@ -160,7 +161,9 @@ impl NorFlash for SimFlash {
 
     ghost faults = { λ f. f.faults };
 
-    ghost is_faultless = { λ f. f.armed ≡ None };
+    ghost takes_also = { λ f page slot bytes. ⊤ };
+
+    ghost is_faultless = { λ f n. f.armed ≡ None };
 
     ghost operates = { λ f o g. IsOperated f o g };
 
@@ -204,7 +207,7 @@ impl NorFlash for SimFlash {
         ensures same_pages { page_count self.new.image ≡ page_count self.old.image }
         ensures counted { self.new.operations ≡ (self.old.operations + 1) % 2 ^ 64 }
         ensures faulted { self.new.faults ≡ (if is_ok result then self.old.faults else (self.old.faults + 1) % 2 ^ 64) }
-        ensures faultless { self.old.armed ≡ None → IsOk result × (self.new.armed ≡ None) }
+        ensures faultless { (n : ℕ) → self.old.armed ≡ None → IsAssured self.old.image page slot bytes ⊎ ⊤ → IsOk result × (self.new.armed ≡ None) }
         ensures operated { IsOperated self.old (programs page slot bytes) self.new }
     {
         self.operations = self.operations.wrapping_add(1);
@@ -235,7 +238,7 @@ impl NorFlash for SimFlash {
         ensures same_pages { page_count self.new.image ≡ page_count self.old.image }
         ensures counted { self.new.operations ≡ (self.old.operations + 1) % 2 ^ 64 }
         ensures faulted { self.new.faults ≡ (if is_ok result then self.old.faults else (self.old.faults + 1) % 2 ^ 64) }
-        ensures faultless { self.old.armed ≡ None → IsOk result × (self.new.armed ≡ None) }
+        ensures faultless { (n : ℕ) → self.old.armed ≡ None → IsOk result × (self.new.armed ≡ None) }
         ensures operated { IsOperated self.old (erases page) self.new }
     {
         self.operations = self.operations.wrapping_add(1);

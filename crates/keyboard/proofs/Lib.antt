@@ -26,3 +26,4 @@ pub mod Apart
 pub mod Following
 pub mod Serving
 pub mod Progressing
+pub mod Lasting

@@ -1,6 +1,6 @@
 //! The keyboard and its calls.
 
-ghost use Rattle.std.specs.Prelude.{◌≡◌, ◌≢◌, ◌∷◌, [], ℕ, List, None, Ok, false, IfOk, is_none};
+ghost use Rattle.std.specs.Prelude.{◌≡◌, ◌≢◌, ◌+◌, ◌∷◌, [], ℕ, List, None, Ok, false, IfOk, is_none};
 ghost use Rattle.std.specs.Option.{option_map};
 ghost use Rattle.layers.specs.Entries.{changed};
 ghost use Rattle.layers.specs.Keymaps.{HasEntries};
@@ -291,8 +291,8 @@ impl<D: Defaults> KeyboardOf<D> {
             → result ≢ Work.Idle → MakesSuch D.defaults start past result (F.image flash.new) (λ operation. F.operates flash.old (on_flash operation) flash.new) }
         // without an operation the flash stays as it is
         ensures untouched { result ≡ Work.Idle → flash.new ≡ flash.old }
-        // a flash that answers no fault lets no command fail
-        ensures faultless { F.is_faultless flash.old → F.is_faultless flash.new × (result ≢ Work.Failed) }
+        // a healthy flash lets no command fail, and an operation uses up one of those that it has left
+        ensures faultless { (n : ℕ) → F.is_faultless flash.old (n + 1) → (result ≢ Work.Idle → F.is_faultless flash.new n) × (result ≢ Work.Failed) }
     {
         let work = self.store.work(flash);
         match work {

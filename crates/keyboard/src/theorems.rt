@@ -168,7 +168,7 @@ pub fn one_image()
 /// fails: the command works until that step, and is settled from then on. While of endpoint 0 only IN packets come,
 /// they are answered NAK until that step, and the first one after it is answered by the empty packet.
 ///
-/// No step fails on a flash that answers no fault (`Keyboard::work`: `faultless`).
+/// No step fails on a flash that is healthy for it (`Keyboard::work`: `faultless`).
 pub fn a_command_is_served()
     ensures acknowledged { (defaults : DefaultCodes) (start : List ℕ) (past between : List Call) (a b c d e : ℕ) (given : EpAnswer) (command : Command) → StaysDue between
         → IsReady defaults start (between ++ SetUp set_feature ∷ past) → command_of_bytes (a ∷ b ∷ c ∷ d ∷ e ∷ []) ≡ Ok command

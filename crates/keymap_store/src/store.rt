@@ -225,7 +225,7 @@ impl<D: Defaults> StoreOf<D> {
         ensures down { CountsDown result (left D.defaults (F.image flash.old) self.old) (left D.defaults (F.image flash.new) self.new) }
         // and which are left
         ensures order { TakesFirst result (rest_of D.defaults (F.image flash.old) self.old) (rest_of D.defaults (F.image flash.new) self.new) }
-        ensures faultless { F.is_faultless flash.old → F.is_faultless flash.new × (result ≢ Work.Failed) }
+        ensures faultless { (n : ℕ) → F.is_faultless flash.old (n + 1) → (result ≢ Work.Idle → F.is_faultless flash.new n) × (result ≢ Work.Failed) }
     {
         let job = self.job;
         match job {
@@ -242,7 +242,7 @@ impl<D: Defaults> StoreOf<D> {
         ensures leaves { WorkLeaves D.defaults (F.image flash.old) self.old result (F.image flash.new) self.new }
         ensures operated { (operation : Operation) → next_operation_of D.defaults (F.image flash.old) self.old ≡ Some operation → F.operates flash.old (on_flash operation) flash.new }
         ensures counts { CountsAs (result ≡ Work.Idle) (result ≡ Work.Failed) (F.operations flash.old) (F.operations flash.new) (F.faults flash.old) (F.faults flash.new) }
-        ensures faultless { F.is_faultless flash.old → F.is_faultless flash.new × (result ≢ Work.Failed) }
+        ensures faultless { (n : ℕ) → F.is_faultless flash.old (n + 1) → F.is_faultless flash.new n × (result ≢ Work.Failed) }
         ensures some { (result ≢ Work.Idle) × (result ≢ Work.Working) }
         ensures order { TakesFirst result (rest_of D.defaults (F.image flash.old) self.old) (rest_of D.defaults (F.image flash.new) self.new) }
     {
@@ -264,7 +264,7 @@ impl<D: Defaults> StoreOf<D> {
         ensures leaves { WorkLeaves D.defaults (F.image flash.old) self.old result (F.image flash.new) self.new }
         ensures operated { (operation : Operation) → next_operation_of D.defaults (F.image flash.old) self.old ≡ Some operation → F.operates flash.old (on_flash operation) flash.new }
         ensures counts { CountsAs (result ≡ Work.Idle) (result ≡ Work.Failed) (F.operations flash.old) (F.operations flash.new) (F.faults flash.old) (F.faults flash.new) }
-        ensures faultless { F.is_faultless flash.old → F.is_faultless flash.new × (result ≢ Work.Failed) }
+        ensures faultless { (n : ℕ) → F.is_faultless flash.old (n + 1) → F.is_faultless flash.new n × (result ≢ Work.Failed) }
         ensures some { (result ≢ Work.Idle) × (result ≢ Work.Settled) }
         ensures fewer { result ≡ Work.Working → left D.defaults (F.image flash.new) self.new + 1 ≡ left D.defaults (F.image flash.old) self.old }
         ensures order { TakesFirst result (rest_of D.defaults (F.image flash.old) self.old) (rest_of D.defaults (F.image flash.new) self.new) }

@@ -51,6 +51,10 @@ abbrev pub ProgramsShort : Operation → Type 0
 ProgramsShort (Program page slot word) = word < 2 ^ 31
 ProgramsShort (Erase page) = Unit {0}
 
+-- the next program, if there is one, is among those that a flash takes besides the short words
+abbrev pub TakesNext : (ℕ → ℕ → Bytes → Type 0) → Bytes → LogValue → Type 0
+TakesNext takes image log = (page slot word : ℕ) → next_operation image log ≡ Some (Program page slot word) → takes page slot (encoded word)
+
 -- the whole of an operation
 abbrev pub Makes : Bytes → Operation → Bytes → Type 0
 Makes old (Program page slot word) new = Programs old page slot (encoded word) new

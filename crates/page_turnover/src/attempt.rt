@@ -1,9 +1,9 @@
 //! One flash operation, and whether it took effect.
 
-ghost use Rattle.std.specs.Prelude.{◌≡◌, ◌+◌, ◌%◌, ◌^◌, ◌<◌, ◌↔◌, IsTrue, true};
+ghost use Rattle.std.specs.Prelude.{◌≡◌, ◌⊎◌, ◌+◌, ◌%◌, ◌^◌, ◌<◌, ◌↔◌, ℕ, IsTrue, true};
 ghost use Rattle.flash_model.specs.declared.TheConstants.{PAGE_SLOTS};
 ghost use Rattle.flash_model.specs.Image.{page_count, slot_at, IsImage};
-ghost use Rattle.records.specs.Slots.{slot_of};
+ghost use Rattle.records.specs.Slots.{slot_of, encoded};
 ghost use Rattle.page_turnover.specs.declared.operation.Operation.{Operation};
 ghost use Rattle.page_turnover.specs.representation.Made.{CanMake, IsMade, RaisesFaults};
 ghost use Rattle.page_turnover.specs.Next.{on_flash};
@@ -20,7 +20,7 @@ pub fn program<F: NorFlash>(flash: &mut F, page: u8, slot: u16, word: u32) -> bo
     ensures made { IsMade (F.image flash.old) (Operation.Program page slot word) result (F.image flash.new) }
     ensures counted { F.operations flash.new ≡ (F.operations flash.old + 1) % 2 ^ 64 }
     ensures faulted { RaisesFaults result (F.faults flash.old) (F.faults flash.new) }
-    ensures faultless { F.is_faultless flash.old → word < 2 ^ 31 → F.is_faultless flash.new × (result ≡ true) }
+    ensures faultless { (n : ℕ) → F.is_faultless flash.old (n + 1) → (word < 2 ^ 31) ⊎ F.takes_also flash.old page slot (encoded word) → F.is_faultless flash.new n × (result ≡ true) }
     ensures operated { F.operates flash.old (on_flash (Operation.Program page slot word)) flash.new }
 {
     let _pages = flash.pages();
@@ -39,7 +39,7 @@ pub fn erase<F: NorFlash>(flash: &mut F, page: u8) -> bool
     ensures made { IsMade (F.image flash.old) (Operation.Erase page) result (F.image flash.new) }
     ensures counted { F.operations flash.new ≡ (F.operations flash.old + 1) % 2 ^ 64 }
     ensures faulted { RaisesFaults result (F.faults flash.old) (F.faults flash.new) }
-    ensures faultless { F.is_faultless flash.old → F.is_faultless flash.new × (result ≡ true) }
+    ensures faultless { (n : ℕ) → F.is_faultless flash.old (n + 1) → F.is_faultless flash.new n × (result ≡ true) }
     ensures operated { F.operates flash.old (on_flash (Operation.Erase page)) flash.new }
 {
     let _pages = flash.pages();

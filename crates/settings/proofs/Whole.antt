@@ -41,7 +41,7 @@ between_none image changes = record { values = inl (λ id l. refl); usable = λ 
 between_both : (old middle : List ℕ) (changes : List Change) (new : List ℕ) → Same (settings_of middle) (settings_of old) → IsBetween old changes middle → IsBetween middle changes new → IsBetween old changes new
 between_both old middle changes new k a b = record { values = both old middle changes new k b.values; usable = λ u. b.usable (a.usable u); known = λ h. b.known (a.known h) }
 
-pub so_far_none : {F : Type 0} (image : F → List ℕ) (operations : F → ℕ) (operates : F → FlashOperation → F → Type 0) (is_faultless : F → Type 0) (changes : List Change) (old : F) (settings : SettingsValue)
+pub so_far_none : {F : Type 0} (image : F → List ℕ) (operations : F → ℕ) (operates : F → FlashOperation → F → Type 0) (is_faultless : F → ℕ → Type 0) (changes : List Change) (old : F) (settings : SettingsValue)
     → Relation (image old) changes settings → IsBusy settings.job → GoesTo (image old) changes settings.job → Needs (image old) changes (left (image old) changes settings) → SoFar image operations operates is_faultless changes (left (image old) changes settings) old settings old
 so_far_none image operations operates is_faultless changes old settings s b g n = record {
   refines = s;
@@ -56,7 +56,7 @@ so_far_none image operations operates is_faultless changes old settings s b g n 
   count = 0;
   counted = let z : operations old + 0 ≡ operations old = omega arith in rw z refl;
   all = omega arith;
-  faultless = λ f. f;
+  faultless = λ n f. let z : n + 0 ≡ n = omega arith in rw z at f;
 }
 
 -- one step more
@@ -68,7 +68,7 @@ moments_more : {F : Type 0} (image : F → List ℕ) (operates : F → FlashOper
 moments_more image operates changes old middle new k m e o b =
     goes_on middle new m (record { operation = o.operation; made = o.made; cut = λ cut i may. between_both (image old) (image middle) changes cut k e (o.cut cut i may) }) (between_both (image old) (image middle) changes (image new) k e b)
 
-pub so_far_more : {F : Type 0} (image : F → List ℕ) (operations : F → ℕ) (operates : F → FlashOperation → F → Type 0) (is_faultless : F → Type 0) (changes : List Change) (failed : Bool) (first last : ℕ) (old : F) (before : SettingsValue) (middle : F) (after : SettingsValue) (new : F)
+pub so_far_more : {F : Type 0} (image : F → List ℕ) (operations : F → ℕ) (operates : F → FlashOperation → F → Type 0) (is_faultless : F → ℕ → Type 0) (changes : List Change) (failed : Bool) (first last : ℕ) (old : F) (before : SettingsValue) (middle : F) (after : SettingsValue) (new : F)
     → SoFar image operations operates is_faultless changes first old before middle → IsBusy before.job → Makes image operations operates is_faultless changes failed first last middle new → Relation (image new) changes after → failed ≡ false
     → (IsBusy after.job → Same (settings_of (image new)) (settings_of (image middle))) → ((IsBusy after.job → ⊥) → Same (settings_of (image new)) (changed (image middle) changes))
     → (IsBusy after.job → WritesMore before.job (image middle) changes (image new) after.job) → ((IsBusy after.job → ⊥) → WritesLast before.job (image middle) changes (image new))
@@ -90,11 +90,11 @@ so_far_more image operations operates is_faultless changes failed first last old
       count = s.count + 1;
       counted = let z : operations old + (s.count + 1) ≡ operations old + s.count + 1 = omega arith in rw z (one_more (operations middle) (operations new) (operations old + s.count) m.counted s.counted);
       all = omega arith;
-      faultless = λ h. (m.faultless (s.faultless h)).0;
+      faultless = λ n h. (m.faultless n (s.faultless (n + 1) (let z : n + (s.count + 1) ≡ n + 1 + s.count = omega arith in rw z at h))).0;
     }
 
 -- all is stored
-pub stores_all : {F T : Type 0} (image : F → List ℕ) (operations faults : F → ℕ) (operates : F → FlashOperation → F → Type 0) (is_faultless : F → Type 0) (changes : List Change) (rest : ℕ) (value : T) (old : F) (settings : SettingsValue) (new : F)
+pub stores_all : {F T : Type 0} (image : F → List ℕ) (operations faults : F → ℕ) (operates : F → FlashOperation → F → Type 0) (is_faultless : F → ℕ → Type 0) (changes : List Change) (rest : ℕ) (value : T) (old : F) (settings : SettingsValue) (new : F)
     → SoFar image operations operates is_faultless changes rest old settings new → (IsBusy settings.job → ⊥) → Stores {F = F} {T = T} image operations faults operates is_faultless changes (Ok value) old new
 stores_all image operations faults operates is_faultless changes rest value old settings new s b =
     let all = s.all in
@@ -107,19 +107,19 @@ stores_all image operations faults operates is_faultless changes rest value old 
       few = record { count = s.count; is = omega arith; counted = s.counted };
       refused = λ why e. cc;
       fault = λ e. cc;
-      progress = λ h. (s.faultless h, λ a. refl);
+      progress = λ n h. (s.faultless n h, λ a. refl);
     }
 
 nothing_left : (job : Job) (image : List ℕ) (changes : List Change) (settings : SettingsValue) → settings.job ≡ job → (IsBusy job → ⊥) → left image changes settings ≡ 0
 nothing_left job image changes settings h1 h2 = grind (arith, common_steps)
 
 -- by as many operations as were needed
-pub count_all : {F : Type 0} (image : F → List ℕ) (operations : F → ℕ) (operates : F → FlashOperation → F → Type 0) (is_faultless : F → Type 0) (changes : List Change) (old : F) (settings : SettingsValue) (new : F)
+pub count_all : {F : Type 0} (image : F → List ℕ) (operations : F → ℕ) (operates : F → FlashOperation → F → Type 0) (is_faultless : F → ℕ → Type 0) (changes : List Change) (old : F) (settings : SettingsValue) (new : F)
     → SoFar image operations operates is_faultless changes (left (image new) changes settings) old settings new → (IsBusy settings.job → ⊥) → HasMade (Needs (image old) changes) (operations old) (operations new)
 count_all image operations operates is_faultless changes old settings new h1 h2 = grind (arith, common_steps, nothing_left)
 
 -- a step failed
-pub stores_none : {F T : Type 0} (image : F → List ℕ) (operations faults : F → ℕ) (operates : F → FlashOperation → F → Type 0) (is_faultless : F → Type 0) (changes : List Change) (failed : Bool) (first last : ℕ) (old : F) (before : SettingsValue) (middle : F) (new : F)
+pub stores_none : {F T : Type 0} (image : F → List ℕ) (operations faults : F → ℕ) (operates : F → FlashOperation → F → Type 0) (is_faultless : F → ℕ → Type 0) (changes : List Change) (failed : Bool) (first last : ℕ) (old : F) (before : SettingsValue) (middle : F) (new : F)
     → SoFar image operations operates is_faultless changes first old before middle → IsBusy before.job → Makes image operations operates is_faultless changes failed first last middle new → failed ≡ true
     → Same (settings_of (image new)) (settings_of (image middle)) → IsFault image faults operates middle new → Stores {F = F} {T = T} image operations faults operates is_faultless changes (Err Fault) old new
 stores_none image operations faults operates is_faultless changes failed first last old before middle new s b m f same why =
@@ -135,14 +135,14 @@ stores_none image operations faults operates is_faultless changes failed first l
       few = record { count = s.count + 1; is = omega arith; counted = let z : operations old + (s.count + 1) ≡ operations old + s.count + 1 = omega arith in rw z (one_more (operations middle) (operations new) (operations old + s.count) m.counted s.counted) };
       refused = λ why e n. absurd (n cc);
       fault = λ e. record { flash = middle; before = s.moments; fault = why };
-      progress = λ h. let g = (m.faultless (s.faultless h)).1 in cc;
+      progress = λ n h. let g = (m.faultless n (s.faultless (n + 1) (let z : n + (s.count + 1) ≡ n + 1 + s.count = omega arith in rw z at h))).1 in cc;
     }
 
 -- nothing was begun
 not_both : (why : SettingsError) (image : List ℕ) (changes : List Change) → IsRefused image changes why → IsAccepted image changes → ⊥
 not_both why image changes h1 h2 = grind (arith, common_steps)
 
-pub stores_nothing : {F T : Type 0} (image : F → List ℕ) (operations faults : F → ℕ) (operates : F → FlashOperation → F → Type 0) (is_faultless : F → Type 0) (changes : List Change) (why : SettingsError) (old : F)
+pub stores_nothing : {F T : Type 0} (image : F → List ℕ) (operations faults : F → ℕ) (operates : F → FlashOperation → F → Type 0) (is_faultless : F → ℕ → Type 0) (changes : List Change) (why : SettingsError) (old : F)
     → IsRefused (image old) changes why → Stores {F = F} {T = T} image operations faults operates is_faultless changes (Err why) old old
 stores_nothing image operations faults operates is_faultless changes why old r = record {
   stored = λ x. (let f : ⊥ = cc in absurd f);
@@ -152,7 +152,7 @@ stores_nothing image operations faults operates is_faultless changes why old r =
   few = record { count = 0; is = omega arith; counted = let z : operations old + 0 ≡ operations old = omega arith in rw z refl };
   refused = λ other e n. (let s : why ≡ other = cc in rw (← s) r, refl);
   fault = λ e. absurd (let s : why ≡ Fault = cc in rw s at r);
-  progress = λ h. (h, λ a. absurd (not_both why (image old) changes r a));
+  progress = λ n h. (let z : n + 0 ≡ n = omega arith in rw z at h, λ a. absurd (not_both why (image old) changes r a));
 }
 
 -- a change that gives an id the value that it has
@@ -164,7 +164,7 @@ changes_none image change e id l =
       | inr n ↦ sym (after-end (settings_of image id) id) ∙ after-skip (settings_of image id) change [] id n ∙ changed-is image (change ∷ []) id
     ]
 
-pub stores_same : {F T : Type 0} (image : F → List ℕ) (operations faults : F → ℕ) (operates : F → FlashOperation → F → Type 0) (is_faultless : F → Type 0) (change : Change) (value : T) (old : F)
+pub stores_same : {F T : Type 0} (image : F → List ℕ) (operations faults : F → ℕ) (operates : F → FlashOperation → F → Type 0) (is_faultless : F → ℕ → Type 0) (change : Change) (value : T) (old : F)
     → settings_of (image old) change.id ≡ change.value → Stores {F = F} {T = T} image operations faults operates is_faultless (change ∷ []) (Ok value) old old
 stores_same image operations faults operates is_faultless change value old e = record {
   stored = λ x. changes_none (image old) change e;
@@ -174,7 +174,7 @@ stores_same image operations faults operates is_faultless change value old e = r
   few = record { count = 0; is = omega arith; counted = let z : operations old + 0 ≡ operations old = omega arith in rw z refl };
   refused = λ other f n. cc;
   fault = λ f. cc;
-  progress = λ h. (h, λ a. refl);
+  progress = λ n h. (let z : n + 0 ≡ n = omega arith in rw z at h, λ a. refl);
 }
 
 -- no changes

@@ -82,7 +82,7 @@ pub record HasMade (P : ℕ → Type 0) (operations operations_after : ℕ) : Ty
   pub counted : operations_after % 2 ^ 64 ≡ (operations + count) % 2 ^ 64
 
 -- what a call leaves that comes back when all is stored
-pub record Stores {F T : Type 0} (image : F → Bytes) (operations faults : F → ℕ) (operates : F → FlashOperation → F → Type 0) (is_faultless : F → Type 0)
+pub record Stores {F T : Type 0} (image : F → Bytes) (operations faults : F → ℕ) (operates : F → FlashOperation → F → Type 0) (is_faultless : F → ℕ → Type 0)
     (changes : List Change) (result : Result T SettingsError) (old new : F) : Type 0 where
   -- Ok: the changes are in force
   pub stored : IsOk result → Same (settings_of (image new)) (changed (image old) changes)
@@ -95,5 +95,5 @@ pub record Stores {F T : Type 0} (image : F → Bytes) (operations faults : F �
   -- each error has its cause, and but for `Fault` nothing was written then
   pub refused : (why : SettingsError) → result ≡ Err why → why ≢ Fault → IsRefused (image old) changes why × (new ≡ old)
   pub fault : result ≡ Err Fault → EndsInFault image faults operates (IsBetween (image old) changes) old new
-  -- a healthy flash with room stores the changes, and stays healthy
-  pub progress : is_faultless old → is_faultless new × (IsAccepted (image old) changes → IsOk result)
+  -- a flash that is healthy for so many operations stores the changes where there is room, and is healthy for all that it had left
+  pub progress : (n : ℕ) → is_faultless old (n + few.count) → is_faultless new n × (IsAccepted (image old) changes → IsOk result)

@@ -337,7 +337,7 @@ impl Settings {
         ensures untouched { result ≡ Work.Idle → flash.new ≡ flash.old }
         ensures counts { CountsAs (result ≡ Work.Idle) (result ≡ Work.Failed) (F.operations flash.old) (F.operations flash.new) (F.faults flash.old) (F.faults flash.new) }
         ensures down { CountsDown result (left (F.image flash.old) changes.now self.old) (left (F.image flash.new) changes.now self.new) }
-        ensures faultless { F.is_faultless flash.old → F.is_faultless flash.new × (result ≢ Work.Failed) }
+        ensures faultless { (n : ℕ) → F.is_faultless flash.old (n + 1) → (result ≢ Work.Idle → F.is_faultless flash.new n) × (result ≢ Work.Failed) }
     {
         match self.job {
             Job::Resting => Work::Idle,
@@ -359,7 +359,7 @@ impl Settings {
         ensures operation { IsOperation F.image F.operates (IsBetween (F.image flash.old) changes.now) flash.old flash.new }
         ensures counts { CountsAs (result ≡ Work.Idle) (result ≡ Work.Failed) (F.operations flash.old) (F.operations flash.new) (F.faults flash.old) (F.faults flash.new) }
         ensures down { CountsDown result (left (F.image flash.old) changes.now self.old) (left (F.image flash.new) changes.now self.new) }
-        ensures faultless { F.is_faultless flash.old → F.is_faultless flash.new × (result ≢ Work.Failed) }
+        ensures faultless { (n : ℕ) → F.is_faultless flash.old (n + 1) → F.is_faultless flash.new n × (result ≢ Work.Failed) }
     {
         let [change] = changes else { unreachable!() };
         self.log.begin_append(word_at(change, at));
@@ -403,7 +403,7 @@ impl Settings {
         ensures operation { IsOperation F.image F.operates (IsBetween (F.image flash.old) changes.now) flash.old flash.new }
         ensures counts { CountsAs (result ≡ Work.Idle) (result ≡ Work.Failed) (F.operations flash.old) (F.operations flash.new) (F.faults flash.old) (F.faults flash.new) }
         ensures down { CountsDown result (left (F.image flash.old) changes.now self.old) (left (F.image flash.new) changes.now self.new) }
-        ensures faultless { F.is_faultless flash.old → F.is_faultless flash.new × (result ≢ Work.Failed) }
+        ensures faultless { (n : ℕ) → F.is_faultless flash.old (n + 1) → F.is_faultless flash.new n × (result ≢ Work.Failed) }
     {
         self.offer_next(flash, changes, from, at);
         match self.log.step(flash) {

@@ -10,6 +10,7 @@ pub mod Reading
 pub mod Checking
 pub mod Receiving
 pub mod Faults
+pub mod Using
 pub mod Writing
 pub mod Forgotten
 pub mod Refusing

@@ -1,6 +1,6 @@
 //! The keyboard with its flash, as a device behind the USB device layer.
 
-ghost use Rattle.std.specs.Prelude.{◌≡◌, ◌≢◌, ◌≤◌, ◌∷◌, [], ℕ, List, length};
+ghost use Rattle.std.specs.Prelude.{◌≡◌, ◌≢◌, ◌+◌, ◌≤◌, ◌∷◌, [], ℕ, List, length};
 ghost use Rattle.std.specs.Option.{option_map};
 ghost use Rattle.control_ep.specs.declared.answer.EpAnswer.{EpAnswer as Answer};
 ghost use Rattle.page_turnover.specs.Steps.{CountsAs};
@@ -127,8 +127,10 @@ impl<D: Defaults, K: HoldsKeyboard<D> + Drop, F: NorFlash + Drop> UsbKeyboardOf<
             → RunsSince D.defaults start (Worked result (F.image self.new.1) ∷ past) self.new.0 (F.image self.new.1) }
         // at most one operation is made, and a step that fails is a fault of the flash
         ensures counts { CountsAs (result ≡ Work.Idle) (result ≡ Work.Failed) (F.operations self.old.1) (F.operations self.new.1) (F.faults self.old.1) (F.faults self.new.1) }
-        // a flash that answers no fault lets no step fail
-        ensures faultless { F.is_faultless self.old.1 → F.is_faultless self.new.1 × (result ≢ Work.Failed) }
+        // without an operation the flash stays as it is
+        ensures untouched { result ≡ Work.Idle → self.new.1 ≡ self.old.1 }
+        // a healthy flash lets no step fail, and an operation uses up one of those that it has left
+        ensures faultless { (n : ℕ) → F.is_faultless self.old.1 (n + 1) → (result ≢ Work.Idle → F.is_faultless self.new.1 n) × (result ≢ Work.Failed) }
     {
         let work = self.keyboard.work(&mut self.flash);
         self.may_work = work == Work::Working;

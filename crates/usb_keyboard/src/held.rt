@@ -1,6 +1,6 @@
 //! A keyboard that a device has, or that it is lent.
 
-ghost use Rattle.std.specs.Prelude.{◌≡◌, ◌≢◌, ◌∷◌, [], ℕ, List};
+ghost use Rattle.std.specs.Prelude.{◌≡◌, ◌≢◌, ◌+◌, ◌∷◌, [], ℕ, List};
 ghost use Rattle.std.specs.Option.{option_map};
 ghost use Rattle.keyboard.specs.Calls.{Call, Scanned, SetUp, Out, In, Polled, Worked, BusReset, image_after};
 ghost use Rattle.keyboard.specs.representation.Relation.{Refines};
@@ -64,7 +64,8 @@ pub trait HoldsKeyboard<D: Defaults> {
             → Refines D.defaults start (Worked result (F.image flash.new) ∷ past) (held self.new) }
         ensures runs_on { RunsOn D.defaults (F.image flash.new) (held self.new) }
         ensures counts { CountsAs (result ≡ Work.Idle) (result ≡ Work.Failed) (F.operations flash.old) (F.operations flash.new) (F.faults flash.old) (F.faults flash.new) }
-        ensures faultless { F.is_faultless flash.old → F.is_faultless flash.new × (result ≢ Work.Failed) };
+        ensures untouched { result ≡ Work.Idle → flash.new ≡ flash.old }
+        ensures faultless { (n : ℕ) → F.is_faultless flash.old (n + 1) → (result ≢ Work.Idle → F.is_faultless flash.new n) × (result ≢ Work.Failed) };
 
     /// A bus reset.
     fn bus_reset(&mut self)

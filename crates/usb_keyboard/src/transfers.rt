@@ -1,6 +1,6 @@
 //! Whole control transfers, for a stack that keeps endpoint 0 to itself.
 
-ghost use Rattle.std.specs.Prelude.{◌≡◌, ◌≢◌, ◌⊎◌, ◌∷◌, ◌++◌, [], ℕ, List, Ok, Err, MatchResult};
+ghost use Rattle.std.specs.Prelude.{◌≡◌, ◌≢◌, ◌⊎◌, ◌+◌, ◌∷◌, ◌++◌, [], ℕ, List, Ok, Err, MatchResult};
 ghost use Rattle.control_ep.specs.Requests.{request_of, transfer_of};
 ghost use Rattle.control_ep.specs.declared.answer.EpAnswer.{EpAnswer as Answer};
 ghost use Rattle.keyboard.specs.Calls.{Call, Out};
@@ -8,6 +8,7 @@ ghost use Rattle.keyboard.specs.Endpoint.{view_after};
 ghost use Rattle.keyboard.specs.Single.{NoneFails};
 ghost use Rattle.usb_keyboard.specs.Checks.{IsChecked, FailsBy, read_answer};
 ghost use Rattle.usb_keyboard.specs.Whole.{IsWritten, Fails, HasNoEffect, Stores, IsRead, IsUnread};
+ghost use Rattle.usb_keyboard.specs.Uses.{UsesAtMost};
 ghost use Rattle.usb_keyboard.specs.representation.Relation.{RunsSince};
 ghost use Rattle.usb_keyboard.specs.representation.Whole.{Gives, IsStatusStage, NotConfirmed, Receives, NotReceived};
 
@@ -45,12 +46,12 @@ impl<D: Defaults, K: HoldsKeyboard<D> + Drop, F: NorFlash + Drop> UsbKeyboardOf<
             × MatchResult result (λ _. IsWritten setup bytes.now since × Stores D.defaults start (since ++ past) setup bytes.now)
             (λ e. Fails e setup bytes.now since × HasNoEffect D.defaults start past since) }
         // it ends as the checks of its request and of its data say. Each that they accept ends by Ok where no fault of the flash came
-        // in this call, and on a flash that answers none
+        // in this call, and on a flash that is healthy for 388 operations or more
         ensures checked { (start : List ℕ) (past : List Call) → RunsSince D.defaults start past self.old.0 (F.image self.old.1)
             → (answer : Answer) × IsChecked D.defaults start past setup bytes.now answer
-            × MatchResult result (λ _. answer ≡ Answer.Ack) (λ e. FailsBy e answer ((F.faults self.new.1 ≡ F.faults self.old.1) ⊎ F.is_faultless self.old.1)) }
-        // a healthy flash stays so
-        ensures faultless { F.is_faultless self.old.1 → F.is_faultless self.new.1 }
+            × MatchResult result (λ _. answer ≡ Answer.Ack) (λ e. FailsBy e answer ((F.faults self.new.1 ≡ F.faults self.old.1) ⊎ ((n : ℕ) × F.is_faultless self.old.1 (n + 388)))) }
+        // of a flash that is healthy for so many operations it uses up those that it makes
+        ensures faultless { UsesAtMost F.operations F.is_faultless 388 self.old.1 self.new.1 }
     {
         self.setup(setup);
         match self.give(bytes) {
@@ -78,8 +79,8 @@ impl<D: Defaults, K: HoldsKeyboard<D> + Drop, F: NorFlash + Drop> UsbKeyboardOf<
         ensures calls { (start : List ℕ) (past : List Call) → RunsSince D.defaults start past self.old.0 (F.image self.old.1)
             → (since : List Call) × RunsSince D.defaults start (since ++ past) self.new.0 (F.image self.new.1)
             × MatchResult result (λ _. IsStatusStage since) (λ e. NotConfirmed D.defaults start past e since)
-            × ((F.faults self.new.1 ≡ F.faults self.old.1) ⊎ F.is_faultless self.old.1 → NoneFails since) }
-        ensures faultless { F.is_faultless self.old.1 → F.is_faultless self.new.1 }
+            × ((F.faults self.new.1 ≡ F.faults self.old.1) ⊎ ((n : ℕ) × F.is_faultless self.old.1 (n + 388)) → NoneFails since) }
+        ensures faultless { UsesAtMost F.operations F.is_faultless 388 self.old.1 self.new.1 }
     {
         for _asked in 0..MOST_ASKED {
             match status_of(self.in_packet()) {

@@ -1,6 +1,6 @@
 //! The fault injector: a simulated flash whose next operation can be set to be torn.
 
-ghost use Rattle.std.specs.Prelude.{◌≡◌, None, Some};
+ghost use Rattle.std.specs.Prelude.{◌≡◌, ⊤, None, Some};
 ghost use Rattle.std.specs.Option.{option_map};
 ghost use Rattle.flash_model.specs.Operated.{IsOperated};
 ghost use Rattle.world.specs.Asked.{noted};
@@ -52,7 +52,9 @@ impl NorFlash for Injector {
 
     ghost faults = { λ b. b.flash.faults };
 
-    ghost is_faultless = { λ b. (torn_by (option_map (λ m. m.items) b.tear) b.flash).armed ≡ None };
+    ghost takes_also = { λ b page slot bytes. ⊤ };
+
+    ghost is_faultless = { λ b n. (torn_by (option_map (λ m. m.items) b.tear) b.flash).armed ≡ None };
 
     ghost operates = { λ b o c. IsOperated (torn_by (option_map (λ m. m.items) b.tear) b.flash) o c.flash × ((c.tear ≡ None) × (c.asked ≡ Some (noted o))) };
 

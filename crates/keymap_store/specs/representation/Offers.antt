@@ -1,6 +1,6 @@
 -- Representation: what the private parts of a compaction owe each other; what `work` guarantees is in Works.
 use Rattle.shapes.specs.Shapes.{Bytes}
-use Rattle.std.specs.Prelude.{◌≡◌, ◌≢◌, ◌<◌, ◌≤◌, ℕ, Some}
+use Rattle.std.specs.Prelude.{◌≡◌, ◌≢◌, ◌+◌, ◌<◌, ◌≤◌, ℕ, Some}
 use Rattle.layers.specs.Codes.{DefaultCodes}
 use Rattle.layers.specs.Copies.{places}
 use Rattle.layers.specs.declared.command.Command.{Command}
@@ -34,7 +34,7 @@ module _ (defaults : DefaultCodes) where
     pub next : after ≡ with_task before (next_task defaults entries before.task)
 
   -- a step of a compaction whose log was offered what it wants, and whose job looks for its next entry from a place on
-  pub record GoesOn (entries : ℕ → ℕ → ℕ) (command : Command) (old : Bytes) (before : LogValue) (step : Step) (new : Bytes) (after : LogValue) (job : Job) (healthy healthy_after : Type 0) (operates : Operation → Type 0) : Type 0 where
+  pub record GoesOn (entries : ℕ → ℕ → ℕ) (command : Command) (old : Bytes) (before : LogValue) (step : Step) (new : Bytes) (after : LogValue) (job : Job) (healthy healthy_after : ℕ → Type 0) (operates : Operation → Type 0) : Type 0 where
     pub log : LogValue
     pub from : ℕ
     pub offered : IsOffered entries old before log from
@@ -42,5 +42,5 @@ module _ (defaults : DefaultCodes) where
     pub target : target_of log.task ≡ target_of before.task
     pub steps : IsStep old log step new after
     pub job_is : job ≡ Turning command from
-    pub faultless : healthy → healthy_after × (step ≢ Failed)
+    pub faultless : (n : ℕ) → healthy (n + 1) → healthy_after n × (step ≢ Failed)
     pub operated : (operation : Operation) → next_operation old log ≡ Some operation → operates operation

@@ -1,13 +1,13 @@
 //! The steps of a log: one flash operation each.
 
-ghost use Rattle.std.specs.Prelude.{◌≡◌, ◌≢◌, ◌↔◌, ◌+◌, ◌-◌, ◌%◌, ◌<◌, ◌≤◌, ◌^◌, ℕ, List, None, Some, Option, MatchOption, IsSomeAnd, ⊤};
+ghost use Rattle.std.specs.Prelude.{◌≡◌, ◌≢◌, ◌⊎◌, ◌↔◌, ◌+◌, ◌-◌, ◌%◌, ◌<◌, ◌≤◌, ◌^◌, ℕ, List, None, Some, Option, MatchOption, IsSomeAnd, ⊤};
 ghost use Rattle.flash_model.specs.Image.{page_count};
 ghost use Rattle.page_turnover.specs.declared.operation.Operation.{Operation};
 ghost use Rattle.page_turnover.specs.Usable.{IsUsable};
 ghost use Rattle.page_turnover.specs.Value.{Rest, Wait, Copy, Holds};
 ghost use Rattle.page_turnover.specs.representation.Value.{target_value, task_value};
 ghost use Rattle.page_turnover.specs.Turn.{target_page, copied, HasShortWord, IsAppend, HasOffer, CanOffer, with_copy};
-ghost use Rattle.page_turnover.specs.Next.{is_ready};
+ghost use Rattle.page_turnover.specs.Next.{is_ready, TakesNext};
 ghost use Rattle.page_turnover.specs.representation.Made.{IsPassedOver};
 ghost use Rattle.page_turnover.specs.representation.Turn.{task_of};
 
@@ -66,8 +66,9 @@ impl Log {
         ensures torn { result ≡ Step.Failed → MayOperate (F.image flash.old) (F.image flash.new) }
         ensures fills { FillsAtMostOne (F.image flash.old) (F.image flash.new) }
         ensures counts { CountsAs (result ≡ Step.Idle) (result ≡ Step.Failed) (F.operations flash.old) (F.operations flash.new) (F.faults flash.old) (F.faults flash.new) }
-        // a healthy flash takes a word whose bit 31 is clear, and each header is one
-        ensures faultless { F.is_faultless flash.old → HasShortWord self.old.task → F.is_faultless flash.new × (result ≢ Step.Failed) }
+        // each healthy flash takes a word whose bit 31 is clear, and each header is one; other words only where it says so
+        ensures faultless { (n : ℕ) → F.is_faultless flash.old (n + 1) → HasShortWord self.old.task ⊎ TakesNext (F.takes_also flash.old) (F.image flash.old) self.old
+            → (result ≢ Step.Idle → F.is_faultless flash.new n) × (result ≢ Step.Failed) }
         // what this flash says of that operation
         ensures operated { (operation : Operation) → next_operation (F.image flash.old) self.old ≡ Some operation → F.operates flash.old (on_flash operation) flash.new }
     {
@@ -84,7 +85,7 @@ impl Log {
         requires appends { IsAppend self.old.task }
         ensures steps { IsStep (F.image flash.old) self.old result (F.image flash.new) self.new }
         ensures counts { CountsAs (result ≡ Step.Idle) (result ≡ Step.Failed) (F.operations flash.old) (F.operations flash.new) (F.faults flash.old) (F.faults flash.new) }
-        ensures faultless { F.is_faultless flash.old → HasShortWord self.old.task → F.is_faultless flash.new × (result ≢ Step.Failed) }
+        ensures faultless { (n : ℕ) → F.is_faultless flash.old (n + 1) → HasShortWord self.old.task ⊎ TakesNext (F.takes_also flash.old) (F.image flash.old) self.old → F.is_faultless flash.new n × (result ≢ Step.Failed) }
         ensures operated { (operation : Operation) → next_operation (F.image flash.old) self.old ≡ Some operation → F.operates flash.old (on_flash operation) flash.new }
     {
         let Task::Append(word) = self.task else {
@@ -109,7 +110,8 @@ impl Log {
         requires can { CanOffer self.old.task }
         ensures steps { IsStep (F.image flash.old) (record self.old { task = with_copy self.old.task word }) result (F.image flash.new) self.new }
         ensures counts { CountsAs (result ≡ Step.Idle) (result ≡ Step.Failed) (F.operations flash.old) (F.operations flash.new) (F.faults flash.old) (F.faults flash.new) }
-        ensures faultless { F.is_faultless flash.old → HasShortWord (with_copy self.old.task word) → F.is_faultless flash.new × (result ≢ Step.Failed) }
+        ensures faultless { (n : ℕ) → F.is_faultless flash.old (n + 1) → HasShortWord (with_copy self.old.task word) ⊎ TakesNext (F.takes_also flash.old) (F.image flash.old) (record self.old { task = with_copy self.old.task word })
+            → F.is_faultless flash.new n × (result ≢ Step.Failed) }
         ensures operated { (operation : Operation) → next_operation (F.image flash.old) (record self.old { task = with_copy self.old.task word }) ≡ Some operation → F.operates flash.old (on_flash operation) flash.new }
     {
         if let Task::Wait(Target::Holds(copied)) = self.task {
@@ -125,7 +127,7 @@ impl Log {
         requires offered { HasOffer self.old.task }
         ensures steps { IsStep (F.image flash.old) self.old result (F.image flash.new) self.new }
         ensures counts { CountsAs (result ≡ Step.Idle) (result ≡ Step.Failed) (F.operations flash.old) (F.operations flash.new) (F.faults flash.old) (F.faults flash.new) }
-        ensures faultless { F.is_faultless flash.old → HasShortWord self.old.task → F.is_faultless flash.new × (result ≢ Step.Failed) }
+        ensures faultless { (n : ℕ) → F.is_faultless flash.old (n + 1) → HasShortWord self.old.task ⊎ TakesNext (F.takes_also flash.old) (F.image flash.old) self.old → F.is_faultless flash.new n × (result ≢ Step.Failed) }
         ensures operated { (operation : Operation) → next_operation (F.image flash.old) self.old ≡ Some operation → F.operates flash.old (on_flash operation) flash.new }
     {
         let (target, next) = offer_of(self.task);
@@ -171,7 +173,7 @@ impl Log {
         requires few { copied < 511 }
         ensures steps { IsStep (F.image flash.old) (record self.old { task = Copy (Holds copied) word }) result (F.image flash.new) self.new }
         ensures counts { CountsAs (result ≡ Step.Idle) (result ≡ Step.Failed) (F.operations flash.old) (F.operations flash.new) (F.faults flash.old) (F.faults flash.new) }
-        ensures faultless { F.is_faultless flash.old → word < 2 ^ 31 → F.is_faultless flash.new × (result ≢ Step.Failed) }
+        ensures faultless { (n : ℕ) → F.is_faultless flash.old (n + 1) → (word < 2 ^ 31) ⊎ TakesNext (F.takes_also flash.old) (F.image flash.old) (record self.old { task = Copy (Holds copied) word }) → F.is_faultless flash.new n × (result ≢ Step.Failed) }
         ensures operated { (operation : Operation) → next_operation (F.image flash.old) (record self.old { task = Copy (Holds copied) word }) ≡ Some operation → F.operates flash.old (on_flash operation) flash.new }
     {
         let page = self.target(flash);

@@ -1,4 +1,4 @@
-use Rattle.std.proofs.Common.{◌+◌, ◌≤◌, ◌<◌, ◌^◌, ◌∙◌, ap, arith, refl}
+use Rattle.std.proofs.Common.{◌+◌, ◌≤◌, ◌<◌, ◌^◌, ◌∙◌, ap, arith, refl, inl}
 use Rattle.layers.specs.Copies.{places}
 use Rattle.page_turnover.specs.Turn.{IsWaiting, with_copy}
 use Rattle.page_turnover.specs.Value.{LogValue}
@@ -18,7 +18,7 @@ returns-then-not-wants-clause-steps g c entries command h o j =
       target = refl;
       steps = c.step_turn.ensures.steps;
       job_is = j;
-      faultless = λ f. c.step_turn.ensures.faultless f (offered_short g.D.Defaults.defaults entries c.args.from old c.args.log.now.task c.requires.within o);
+      faultless = λ n f. c.step_turn.ensures.faultless n f (inl (offered_short g.D.Defaults.defaults entries c.args.from old c.args.log.now.task c.requires.within o));
       operated = c.step_turn.ensures.operated;
     }
 
@@ -43,7 +43,7 @@ returns-in-Some-clause-steps g c entries command h o j =
       target = copy_target log.task c.word.result;
       steps = c.step_copy.ensures.steps;
       job_is = c.go_on.ensures command c.args.from j;
-      faultless = λ f. c.step_copy.ensures.faultless f (offered_short g.D.Defaults.defaults entries (place + 1) old given.task within offered.offers);
+      faultless = λ n f. c.step_copy.ensures.faultless n f (inl (offered_short g.D.Defaults.defaults entries (place + 1) old given.task within offered.offers));
       operated = c.step_copy.ensures.operated;
     }
 
@@ -61,6 +61,6 @@ returns-in-None-clause-steps g c entries command h o j =
       target = ap (λ (l : LogValue). target_of l.task) c.seal.ensures.pending ∙ seal_target log.task;
       steps = c.step_turn-in-None.ensures.steps;
       job_is = j;
-      faultless = λ f. c.step_turn-in-None.ensures.faultless f (offered_short g.D.Defaults.defaults entries c.args.from old c.seal.new.self.task c.requires.within offered.offers);
+      faultless = λ n f. c.step_turn-in-None.ensures.faultless n f (inl (offered_short g.D.Defaults.defaults entries c.args.from old c.seal.new.self.task c.requires.within offered.offers));
       operated = c.step_turn-in-None.ensures.operated;
     }

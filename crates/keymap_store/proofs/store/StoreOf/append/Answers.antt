@@ -1,4 +1,4 @@
-use Rattle.std.proofs.Common.{refl, sym, ◌∙◌}
+use Rattle.std.proofs.Common.{refl, sym, ◌∙◌, inl}
 use Rattle.keymap_store.proofs.Working.{appended, appending, failed}
 use Rattle.keymap_store.proofs.Ordering.{settled_order, failed_order}
 use Rattle.keymap_store.proofs.Short.{record_short}
@@ -60,11 +60,11 @@ pub returns-in-Failed-clause-order : goal.returns-in-Failed-clause-order
 returns-in-Failed-clause-order g c = failed_order _
 
 pub returns-in-Committed-clause-faultless : goal.returns-in-Committed-clause-faultless
-returns-in-Committed-clause-faultless g c f =
+returns-in-Committed-clause-faultless g c n f =
     let a = appending g.D.Defaults.defaults (g.F.NorFlash.image c.args.flash.now) _ c.args.command (rw (← c.self.view_is) at c.requires.mirrors) (rw (← c.self.view_is) at c.requires.job) in
-    ((c.step_append.ensures.faultless f (rw a.task_is (record_short c.args.command a.reads_back))).0, λ e. cc)
+    ((c.step_append.ensures.faultless n f (inl (rw a.task_is (record_short c.args.command a.reads_back)))).0, λ e. cc)
 
 pub returns-in-Failed-clause-faultless : goal.returns-in-Failed-clause-faultless
-returns-in-Failed-clause-faultless g c f =
+returns-in-Failed-clause-faultless g c n f =
     let a = appending g.D.Defaults.defaults (g.F.NorFlash.image c.args.flash.now) _ c.args.command (rw (← c.self.view_is) at c.requires.mirrors) (rw (← c.self.view_is) at c.requires.job) in
-    absurd ((c.step_append.ensures.faultless f (rw a.task_is (record_short c.args.command a.reads_back))).1 c.in-Failed.is)
+    absurd ((c.step_append.ensures.faultless n f (inl (rw a.task_is (record_short c.args.command a.reads_back)))).1 c.in-Failed.is)

@@ -188,25 +188,25 @@ pub returns-in-Failed-clause-order : goal.returns-in-Failed-clause-order
 returns-in-Failed-clause-order g c = failed_order _
 
 pub returns-in-Moved-clause-faultless : goal.returns-in-Moved-clause-faultless
-returns-in-Moved-clause-faultless g c f =
+returns-in-Moved-clause-faultless g c n f =
     let old = g.F.NorFlash.image c.args.flash.now in
     let m = rw (← c.self.view_is) at c.requires.mirrors in
     let j = turning g.D.Defaults.defaults old _ c.args.command c.args.from m (rw (← c.self.view_is) at c.requires.job) in
     let t = c.step_turn.ensures.steps (entries_of g.D.Defaults.defaults old) c.args.command m.keymap_is j.offers (rw (← c.self.view_is) at c.requires.job) in
-    ((t.faultless f).0, λ e. cc)
+    ((t.faultless n f).0, λ e. cc)
 
 pub returns-in-Committed-clause-faultless : goal.returns-in-Committed-clause-faultless
-returns-in-Committed-clause-faultless g c f =
+returns-in-Committed-clause-faultless g c n f =
     let old = g.F.NorFlash.image c.args.flash.now in
     let m = rw (← c.self.view_is) at c.requires.mirrors in
     let j = turning g.D.Defaults.defaults old _ c.args.command c.args.from m (rw (← c.self.view_is) at c.requires.job) in
     let t = c.step_turn.ensures.steps (entries_of g.D.Defaults.defaults old) c.args.command m.keymap_is j.offers (rw (← c.self.view_is) at c.requires.job) in
-    ((t.faultless f).0, λ e. cc)
+    ((t.faultless n f).0, λ e. cc)
 
 pub returns-in-Failed-clause-faultless : goal.returns-in-Failed-clause-faultless
-returns-in-Failed-clause-faultless g c f =
+returns-in-Failed-clause-faultless g c n f =
     let old = g.F.NorFlash.image c.args.flash.now in
     let m = rw (← c.self.view_is) at c.requires.mirrors in
     let j = turning g.D.Defaults.defaults old _ c.args.command c.args.from m (rw (← c.self.view_is) at c.requires.job) in
     let t = c.step_turn.ensures.steps (entries_of g.D.Defaults.defaults old) c.args.command m.keymap_is j.offers (rw (← c.self.view_is) at c.requires.job) in
-    absurd ((t.faultless f).1 c.in-Failed.is)
+    absurd ((t.faultless n f).1 c.in-Failed.is)

@@ -1,15 +1,17 @@
-use Rattle.std.proofs.Common.{◌≡◌, ◌∙◌, ◌<◌, ◌+◌, ◌^◌, true, false, sym, subst}
+use Rattle.std.proofs.Common.{◌≡◌, ◌∙◌, ◌<◌, ◌+◌, ◌^◌, true, false, sym, subst, ◌⊎◌, inl}
+use Rattle.records.specs.Slots.{encoded}
 use Rattle.page_turnover.specs.declared.log.stepping.Step.TheVariants.{Moved}
 use Rattle.page_turnover.specs.declared.operation.Operation.TheVariants.{Program, Erase}
 use Rattle.page_turnover.specs.Header.{header_word}
 use Rattle.page_turnover.specs.Next.{is_ready}
 use Rattle.page_turnover.specs.Steps.{IsStep}
 use Rattle.page_turnover.specs.Turn.{target_page, next_seq, copied}
-use Rattle.page_turnover.specs.Value.{Task, Seal}
+use Rattle.page_turnover.specs.Value.{Task, Copy, Seal}
 use Rattle.page_turnover.specs.representation.Turn.{task_of}
 use Rattle.page_turnover.specs.representation.Value.{target_value, task_value}
 use Rattle.page_turnover.proofs.Endings.{under_way, seq_is, seq_small}
 use Rattle.page_turnover.proofs.Headers.{header_word-short}
+use Rattle.page_turnover.proofs.Making.{next_taken}
 use Rattle.page_turnover.proofs.Planning.{can_make, next_of_copy, next_of_seal, next_of_unready, some_same}
 use Rattle.page_turnover.proofs.Stepping.{copy_done, seal_done, erase_done, step_failed, inside_new}
 use Rattle.page_turnover.proofs.log.Log.step_turn.Goals as goal
@@ -71,6 +73,32 @@ returns-else-not-program-clause-steps g c =
     rw (← c.self.view_is, c.copies_of-slot.ensures) (copy_done old _ target c.in-Some.word (g.F.NorFlash.image c.program.new.flash) (rw (← c.self.view_is) at c.requires.describes)
     (rw c.in-Some.is at c.offer_of-target.ensures) ready c.program.ensures.whole (rw (c.target-page.ensures.page, c.copies_of-slot.ensures) at c.if-not-program.ensures.made))
 
+-- the flash takes the copy: its word is short, or among those that it takes besides
+pub returns-then-not-program-clause-faultless : goal.returns-then-not-program-clause-faultless
+returns-then-not-program-clause-faultless g c n f s =
+    let old = g.F.NorFlash.image c.args.flash.now in
+    let target = target_value c.offer_of-target.result.0 in
+    let ready : is_ready old target ≡ true = sym c.is_ready.ensures ∙ c.if-not-is_ready.false in
+    let offered : c.args.self.now.task ≡ task_of target c.offer_of-target.result.1 = rw (← c.self.view_is) c.offer_of-target.ensures in
+    let task : c.args.self.now.task ≡ Copy target c.in-Some.word = rw c.in-Some.is at offered in
+    let next = next_of_copy old c.args.self.now target c.in-Some.word task ready in
+    let takes = g.F.NorFlash.takes_also c.args.flash.now in
+    let taken : (c.in-Some.word < 2 ^ 31) ⊎ takes c.target-page.result (c.copies_of-slot.result + 1) (encoded c.in-Some.word) = rw (c.target-page.ensures.page, c.copies_of-slot.ensures) (next_taken takes old c.args.self.now (target_page old) (copied target + 1) c.in-Some.word (λ x. rw task at x) next s) in
+    let e = (c.if-not-program.ensures.faultless n f taken).1 in
+    cc
+
+pub returns-else-not-program-clause-faultless : goal.returns-else-not-program-clause-faultless
+returns-else-not-program-clause-faultless g c n f s =
+    let old = g.F.NorFlash.image c.args.flash.now in
+    let target = target_value c.offer_of-target.result.0 in
+    let ready : is_ready old target ≡ true = sym c.is_ready.ensures ∙ c.if-not-is_ready.false in
+    let offered : c.args.self.now.task ≡ task_of target c.offer_of-target.result.1 = rw (← c.self.view_is) c.offer_of-target.ensures in
+    let task : c.args.self.now.task ≡ Copy target c.in-Some.word = rw c.in-Some.is at offered in
+    let next = next_of_copy old c.args.self.now target c.in-Some.word task ready in
+    let takes = g.F.NorFlash.takes_also c.args.flash.now in
+    let taken : (c.in-Some.word < 2 ^ 31) ⊎ takes c.target-page.result (c.copies_of-slot.result + 1) (encoded c.in-Some.word) = rw (c.target-page.ensures.page, c.copies_of-slot.ensures) (next_taken takes old c.args.self.now (target_page old) (copied target + 1) c.in-Some.word (λ x. rw task at x) next s) in
+    ((c.if-not-program.ensures.faultless n f taken).0, λ e. cc)
+
 -- the commit header
 pub next_seq-seq-requires : goal.next_seq-seq-requires
 next_seq-seq-requires g c = seq_small (g.F.NorFlash.image c.args.flash.now) c.args.self.now c.requires.describes
@@ -114,23 +142,23 @@ returns-else-not-program-2-clause-steps g c =
     (rw c.in-None.is at c.offer_of-target.ensures) ready c.program-in-None.ensures.whole (rw (c.target-page.ensures.page, c.header.ensures, seq) at c.if-not-program-2.ensures.made))
 
 pub returns-then-not-program-2-clause-faultless : goal.returns-then-not-program-2-clause-faultless
-returns-then-not-program-2-clause-faultless g c f s =
+returns-then-not-program-2-clause-faultless g c n f s =
     let old = g.F.NorFlash.image c.args.flash.now in
     let target = target_value c.offer_of-target.result.0 in
     let seq : c.next_seq-seq.result ≡ next_seq old = seq_is old c.args.self.now c.next_seq-seq.result c.requires.describes c.next_seq-seq.ensures in
     let task : c.args.self.now.task ≡ task_of target c.offer_of-target.result.1 = rw (← c.self.view_is) c.offer_of-target.ensures in
     let short : c.header.result < 2 ^ 31 = rw (c.header.ensures, seq) (header_word-short (next_seq old) (under_way old c.args.self.now (Seal target) c.requires.describes (rw c.in-None.is at task)).can.numbered) in
-    let e = (c.if-not-program-2.ensures.faultless f short).1 in
+    let e = (c.if-not-program-2.ensures.faultless n f (inl short)).1 in
     cc
 
 pub returns-else-not-program-2-clause-faultless : goal.returns-else-not-program-2-clause-faultless
-returns-else-not-program-2-clause-faultless g c f s =
+returns-else-not-program-2-clause-faultless g c n f s =
     let old = g.F.NorFlash.image c.args.flash.now in
     let target = target_value c.offer_of-target.result.0 in
     let seq : c.next_seq-seq.result ≡ next_seq old = seq_is old c.args.self.now c.next_seq-seq.result c.requires.describes c.next_seq-seq.ensures in
     let task : c.args.self.now.task ≡ task_of target c.offer_of-target.result.1 = rw (← c.self.view_is) c.offer_of-target.ensures in
     let short : c.header.result < 2 ^ 31 = rw (c.header.ensures, seq) (header_word-short (next_seq old) (under_way old c.args.self.now (Seal target) c.requires.describes (rw c.in-None.is at task)).can.numbered) in
-    ((c.program-in-None.ensures.faultless f short).0, λ e. cc)
+    ((c.program-in-None.ensures.faultless n f (inl short)).0, λ e. cc)
 
 pub returns-then-not-program-2-clause-operated : goal.returns-then-not-program-2-clause-operated
 returns-then-not-program-2-clause-operated g c operation e =

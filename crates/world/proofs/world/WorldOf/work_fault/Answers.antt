@@ -16,7 +16,7 @@ returns g c start past s =
     (works_in g.D.Defaults.defaults start past _ (armed_by c.copy_of.result.items c.self.inside.injector.flash) _ c.work-work.result c.work-work.new.flash.flash t
     (c.work-work.ensures.answer _ _ t.keyboard image) (arms g.D.Defaults.defaults start past _ _ _ c.copy_of.ensures t)
     (λ n. on_injector g.D.Defaults.defaults (session start past) (armed_by c.copy_of.result.items c.self.inside.injector.flash) c.work-work.result c.work-work.new.flash.flash
-    (λ operation. (c.work-work.new.flash.tear ≡ None) × (c.work-work.new.flash.asked ≡ Some (noted (on_flash operation)))) (c.work-work.ensures.operated _ _ t.keyboard image n)) (λ i. ap (λ b. b.flash) (c.work-work.ensures.untouched i)) (λ n. (c.work-work.ensures.faultless n).1))
+    (λ operation. (c.work-work.new.flash.tear ≡ None) × (c.work-work.new.flash.asked ≡ Some (noted (on_flash operation)))) (c.work-work.ensures.operated _ _ t.keyboard image n)) (λ i. ap (λ b. b.flash) (c.work-work.ensures.untouched i)) (λ h. (c.work-work.ensures.faultless 0 h).1))
     (noted_next g.D.Defaults.defaults (session start past) c.work-work.result c.work-work.new.flash.flash.image c.work-work.new.flash.asked
     (λ operation. IsOperated (armed_by c.copy_of.result.items c.self.inside.injector.flash) (on_flash operation) c.work-work.new.flash.flash) (c.work-work.new.flash.tear ≡ None)
     (c.work-work.ensures.answer _ _ t.keyboard image) (c.work-work.ensures.operated _ _ t.keyboard image) (λ i. ap (λ b. b.asked) (c.work-work.ensures.untouched i))))
