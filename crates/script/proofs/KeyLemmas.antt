@@ -1,5 +1,7 @@
 -- Reading the keys of a scan, word by word.
-use Rattle.std.proofs.Common.{◌≡◌, ◌==◌, ◌||◌, ℕ, ◌<◌, Bool, true, false, inl, inr, map, List, [], ◌∷◌, ◌++◌, refl, sym, ap, ◌∙◌, append_assoc, Bor}
+use Rattle.std.proofs.lemmas.Grind.{common_steps}
+use Rattle.std.proofs.Common.{arith}
+use Rattle.std.proofs.Common.{◌≡◌, ◌==◌, ◌||◌, ℕ, ◌<◌, Bool, false, inl, inr, map, List, [], ◌∷◌, ◌++◌, refl, sym, ap, ◌∙◌, append_assoc, Bor}
 use Rattle.std.proofs.lemmas.List.{map-append}
 use Rattle.std.proofs.lemmas.List.Elements.{All-nil, All-cons, All-head, All-tail, All-append}
 use Rattle.std.proofs.lemmas.List.Folds.{list_any-append}
@@ -29,14 +31,10 @@ pub named_none : (all : List (List ℕ)) (scan : Scan) → ((key : ℕ) → key 
 named_none all scan none = record { cut = refl; keys = All-nil (IsNumberBelow 96); exactly = none }
 
 or_swap : (x b : Bool) → (x || b) ≡ (b || (x || false))
-or_swap true true = refl
-or_swap true false = refl
-or_swap false true = refl
-or_swap false false = refl
+or_swap x b = grind (arith, common_steps)
 
 named_by : (before : List (List ℕ)) (word : List ℕ) (key : ℕ) → is_named (before ++ word ∷ []) key ≡ ((key == digits_value 10 word) || is_named before key)
-named_by before word key =
-    list_any-append (λ w. key == digits_value 10 w) before (word ∷ []) ∙ sym (or_swap (key == digits_value 10 word) (is_named before key))
+named_by before word key = grind (arith, common_steps, list_any-append, or_swap)
 
 -- one word more
 pub named_more : (all : List (List ℕ)) (before : List (Bor (List ℕ))) (left after : List (List ℕ)) (word : Bor (List ℕ)) (scan next : Scan) (number : ℕ)

@@ -1,19 +1,17 @@
 -- Taking the lines of a text one by one.
-use Rattle.std.proofs.Common.{◌≡◌, ℕ, ◌+◌, ◌<◌, ◌≤◌, false, List, [], ◌∷◌, length, take, drop, refl, ap, sym, ◌∙◌, arith, add-one, suc, get_or, length-drop}
+use Rattle.std.proofs.Common.{◌≡◌, ℕ, ◌+◌, ◌<◌, ◌≤◌, List, [], ◌∷◌, length, take, drop, ap, sym, ◌∙◌, arith, add-one, suc, get_or, length-drop}
 use Rattle.std.proofs.lemmas.Grind.{common_steps}
 use Rattle.std.proofs.lemmas.List.{take_all, drop_all}
-use Rattle.std.proofs.lemmas.List.Elements.{All-from_get_or}
 use Rattle.std.proofs.lemmas.List.Sums.{fails_before_first, count_by-le-length}
 use Rattle.std.proofs.lemmas.List.Splits.{slice_split_none, slice_split_first, length-slice_split}
 use Rattle.std.proofs.Math.Seq.{drop-cons}
 use Rattle.std.specs.Prelude.{◌==◌}
-use Rattle.std.specs.List.{slice_split, position_or_len, All}
+use Rattle.std.specs.List.{slice_split, position_or_len}
 use Rattle.std.specs.Str.Lines.{lines, lines_of_parts, strip_carriage_return}
 
 lines_of_parts-cons : (x : List ℕ) (parts : List (List ℕ)) → 0 < length parts
     → lines_of_parts (x ∷ parts) ≡ strip_carriage_return x ∷ lines_of_parts parts
-lines_of_parts-cons x [] h = absurd (omega arith)
-lines_of_parts-cons x (y ∷ more) h = refl
+lines_of_parts-cons x parts h1 = grind (arith, common_steps)
 
 -- a line ends before the first LF
 pub lines_first : (text : List ℕ) → position_or_len (λ b. b == 10) text < length text
@@ -26,10 +24,7 @@ lines_first text more =
 
 -- a text without an LF is one line, if it is not empty
 pub lines_last : (text : List ℕ) → length text ≤ position_or_len (λ b. b == 10) text → 0 < length text → lines text ≡ text ∷ []
-lines_last text whole some =
-    let all : All (λ b. (b == 10) ≡ false) text
-    = All-from_get_or (λ b. (b == 10) ≡ false) text 0 (λ i l. fails_before_first (λ b. b == 10) text i 0 (omega arith)) in
-    ap lines_of_parts (slice_split_none (λ b. b == 10) text all) ∙ grind (arith, common_steps)
+lines_last text h1 h2 = grind (arith, common_steps, fails_before_first, slice_split_none, common_steps)
 
 -- the step over a line that ends with LF
 pub line_step : (text line tail rest : List ℕ) (n b : ℕ) → n ≡ position_or_len (λ b. b == 10) text → line ≡ take n text → tail ≡ drop n text
@@ -43,13 +38,7 @@ line_step text line tail rest n b n_is line_is tail_is split =
 -- the step over a last line without LF
 pub last_step : (text line tail : List ℕ) (n : ℕ) → n ≡ position_or_len (λ b. b == 10) text → line ≡ take n text → tail ≡ drop n text
     → length tail ≡ 0 → 0 < length line → lines text ≡ line ∷ lines tail
-last_step text line tail n n_is line_is tail_is none some =
-    let whole : length text ≤ n = omega (arith, ap length tail_is, length-drop n text) in
-    let all : take n text ≡ text = take_all n text whole in
-    let left : drop n text ≡ [] = drop_all n text whole in
-    let line_text : line ≡ text = line_is ∙ all in
-    let no_tail : tail ≡ [] = tail_is ∙ left in
-    rw (no_tail, line_text) (lines_last text (omega arith) (omega (arith, ap length line_text)))
+last_step text line tail n h1 h2 h3 h4 h5 = grind (arith, common_steps, take_all, drop_all, lines_last)
 
 length-lines_of_parts : (parts : List (List ℕ)) → length (lines_of_parts parts) ≤ length parts
 length-lines_of_parts [] = omega arith
@@ -58,5 +47,4 @@ length-lines_of_parts (x ∷ y ∷ more) = omega (arith, length-lines_of_parts (
 
 -- each line but the last takes a byte at least
 pub length-lines : (text : List ℕ) → length (lines text) ≤ length text + 1
-length-lines text =
-    omega (arith, length-lines_of_parts (slice_split (λ b. b == 10) text), length-slice_split (λ b. b == 10) text, count_by-le-length (λ b. b == 10) text)
+length-lines text = grind (arith, common_steps, length-lines_of_parts, length-slice_split, count_by-le-length)

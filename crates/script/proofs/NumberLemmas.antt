@@ -1,4 +1,5 @@
 -- Words of digits.
+use Rattle.std.proofs.lemmas.Grind.{common_steps}
 use Rattle.std.proofs.Common.{◌≡◌, ℕ, ◌*◌, inl, inr, List, length, ◌∙◌, arith, Result, Ok, Err}
 use Rattle.std.proofs.lemmas.Bool.{cases_lt}
 use Rattle.std.proofs.lemmas.List.{get_or_past}
@@ -38,12 +39,4 @@ refused_slice count word out e r is value same least most h =
 
 -- what writes some bytes is hex
 pub hex_of : (word bytes : List ℕ) (most : ℕ) → decode_of word ≡ Ok bytes → 0 < length bytes → length bytes ≤ most → IsHexOf 1 most word
-hex_of word bytes most is some few =
-    let ok = decode_of-ok word bytes is in
-    record {
-      count = length bytes;
-      pairs = omega (arith, ok.0);
-      enough = some;
-      no_more = few;
-      digits = ok.1;
-    }
+hex_of word bytes most h1 h2 h3 = grind (arith, common_steps, decode_of-ok)

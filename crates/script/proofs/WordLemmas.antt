@@ -4,19 +4,16 @@ use Rattle.std.proofs.lemmas.Grind.{common_steps}
 use Rattle.std.proofs.lemmas.Bool.{cases_lt}
 use Rattle.std.proofs.lemmas.List.{take_all, drop_all}
 use Rattle.std.proofs.lemmas.List.Folds.{length-prefix_len}
-use Rattle.std.proofs.lemmas.List.Elements.{All-from_get_or}
 use Rattle.std.proofs.lemmas.List.Sums.{fails_before_first, passes_at_first, prefix_len-le-length, length-filter, count_by-le-length}
 use Rattle.std.proofs.lemmas.List.Splits.{slice_split-cons_yes, slice_split_none, slice_split_first, length-slice_split}
 use Rattle.std.proofs.Math.Seq.{drop-cons}
-use Rattle.std.specs.List.{slice_split, prefix_len, position_or_len, All}
+use Rattle.std.specs.List.{slice_split, prefix_len, position_or_len}
 use Rattle.script.specs.Words.{is_blank, words}
 
 -- a line has at most a word more than bytes
 pub length-words : (line : List ℕ) → length (words line) ≤ length line + 1
 unfolding words
-length-words line =
-    let pieces = slice_split is_blank line in
-    omega (arith, length-filter (λ w. nat_lt 0 (length w)) pieces, count_by-le-length (λ w. nat_lt 0 (length w)) pieces, length-slice_split is_blank line, count_by-le-length is_blank line)
+length-words line = grind (arith, common_steps, length-filter, count_by-le-length, length-slice_split)
 
 -- the test that keeps the pieces that are words
 abbrev pub kept : List (List ℕ) → List (List ℕ)
@@ -54,10 +51,7 @@ words_first_of_more xs some more =
 words_first_of_last : (xs : List ℕ) → 0 < position_or_len is_blank xs → length xs ≡ position_or_len is_blank xs
     → words xs ≡ take (position_or_len is_blank xs) xs ∷ words (drop (position_or_len is_blank xs) xs)
 unfolding words
-words_first_of_last xs some whole =
-    let all : All (λ b. is_blank b ≡ false) xs = All-from_get_or (λ b. is_blank b ≡ false) xs 0 (λ i l. fails_before_first is_blank xs i 0 (omega arith)) in
-    rw (take_all (position_or_len is_blank xs) xs (omega arith), drop_all (position_or_len is_blank xs) xs (omega arith))
-    (ap kept (slice_split_none is_blank xs all) ∙ kept-cons xs [] (omega arith))
+words_first_of_last xs h1 h2 = grind (arith, common_steps, fails_before_first, take_all, drop_all, slice_split_none, kept-cons)
 
 pub words_first : (xs : List ℕ) → 0 < position_or_len is_blank xs
     → words xs ≡ take (position_or_len is_blank xs) xs ∷ words (drop (position_or_len is_blank xs) xs)
