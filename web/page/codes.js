@@ -1,7 +1,7 @@
 // Codes of the keymap (docs/formats.md): which there are, their names, and what stands on a key.
 
 import { hex } from "./bytes.js";
-import { KEYS, LAYERS, entryOf } from "./device.js";
+import { KEYS, LAYERS, core, entryOf } from "./device.js";
 import { isKeypad } from "./layouts.js";
 import { legendOf, pages, usageName } from "./usages.js";
 
@@ -15,14 +15,19 @@ const KEY_PAGE = 0x07, CONSUMER_PAGE = 0x0c;
 const isLayer = (code) => code > LAYER && code <= LAYER + 3;
 const isConsumer = (code) => code > CONSUMER && code <= CONSUMER + 0x3ff;
 
+/** @type {any} */
+const calls = new WebAssembly.Instance(core, {}).exports;
+
 /** Whether a number of 16 bits is a code. */
-export const isCode = (code) => code <= 1 || (code >= 4 && code <= 0xa4) || (code >= 0xe0 && code <= 0xe7) || isConsumer(code) || isLayer(code);
+export const isCode = (code) => calls.is_code(code) === 1;
 
 /** The code of an entry that no command wrote. */
-export const defaultCode = (layer, key) => (layer > 0 ? TRANSPARENT : key < 88 ? 4 + key : 0xe0 + key - 88);
+export const defaultCode = (layer, key) => calls.default_code(entryOf(layer, key));
 
-/** The key that has a usage of page 07h by default. */
-export const keyWith = (usage) => (usage >= 0xe0 ? 88 + usage - 0xe0 : usage - 4);
+const DEFAULTS = Array.from({ length: KEYS }, (_, key) => defaultCode(0, key));
+
+/** The key that has a usage of page 07h by default, or -1. */
+export const keyWith = (usage) => DEFAULTS.indexOf(usage);
 
 /**
  * Returns the keymap after a command: operation 1 sets an entry, 2 resets a layer, 3 resets all.

@@ -11,6 +11,7 @@
 extern crate alloc;
 
 pub mod cells;
+pub mod codes;
 pub mod device;
 pub mod flash;
 pub mod memory;
