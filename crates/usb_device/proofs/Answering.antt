@@ -1,13 +1,13 @@
 -- What the buffers hold behind a call, by the bus and the session.
 use Rattle.std.proofs.lemmas.Grind.{common_steps}
 use Rattle.std.proofs.Common.{arith}
-use Rattle.std.proofs.Common.{◌≡◌, ℕ, Bool, true, false, List, ◌∷◌, Option, Some, None, refl, ap, sym, subst, ◌∙◌, inl, inr}
+use Rattle.std.proofs.Common.{◌≡◌, ℕ, Bool, true, false, List, [], ◌∷◌, Option, Some, None, refl, ap, sym, subst, ◌∙◌, inl, inr}
 use Rattle.usb_device.specs.Calls.{EpCall}
 use Rattle.usb_device.specs.Bus.{Bus, InMode, Naks, Sends, Stalls, OutMode, NaksOut, Takes, StallsOut, is_pending, write_of}
 use Rattle.usb_device.specs.Confirmed.{asked_of}
-use Rattle.usb_device.specs.Given.{is_read, outs_of, heard_of}
-use Rattle.usb_device.specs.Transfers.{TransferState, Idle, Refused, Over, Reads, ReadDue, Sent, Closing, Closed, Opening, Writes, Keeps, Asking, Due, Status, Done, IsOpen, Rests}
-use Rattle.usb_device.specs.Served.{AsksDue, has_refused, HasCause, NaksFor, idle, puts_off, was_taken, has_come, awaits_data, has_given, was_ended, NaksOutFor, idle_out, puts_off_out, has_come_out, InFor, OutFor, Hears, heard_all, heard_but_new, heard_but_put_off, has_stalled, Answers}
+use Rattle.usb_device.specs.Given.{is_read, outs_of, heard_of, given_of, all_given}
+use Rattle.usb_device.specs.Transfers.{TransferState, Idle, Refused, Over, Reads, ReadDue, Sent, Closing, Closed, Opening, Writes, Keeps, Asking, Due, Status, Done, IsOpen, Rests, NothingWithheld0, is_done}
+use Rattle.usb_device.specs.Served.{HearsEnd, is_in_due, AsksDue, has_refused, HasCause, NaksFor, idle, puts_off, was_taken, has_come, awaits_data, has_given, was_ended, NaksOutFor, idle_out, puts_off_out, has_come_out, InFor, OutFor, Hears, heard_all, heard_but_new, heard_but_put_off, has_stalled, Answers}
 use Rattle.usb_device.specs.representation.Link.{SoundIn, ClosedIf, OnlyBy, HeardBy, IsGiven, BufferIn, PastIn, StandsOf, Stands, StageLink, Link, PutOff}
 
 -- a stall has its cause
@@ -149,3 +149,42 @@ answers_by t b calls since p l r o (inr (s, x)) =
 
 pub answers : (t : TransferState) (b : Bus) (calls since : List EpCall) → is_pending b.met ≡ false → Link t b calls → Rests t b → PutOff t since → Answers b calls since
 answers t b calls since p l r o = answers_by t b calls since p l r o (l.current p).stands
+
+-- the end of a transfer is heard
+due_given : (s : List ℕ) (given heard : List (List ℕ)) → is_in_due s given heard ≡ true → all_given s given ≡ false
+due_given s given heard h1 = grind (arith, common_steps)
+
+none_given : (s : List ℕ) (given : List (List ℕ)) → given ≡ [] → all_given s given ≡ false
+none_given s given h1 = grind (arith, common_steps)
+
+unlike : (a : Bool) → a ≡ true → a ≡ false → ⊥
+unlike a h1 h2 = grind (arith, common_steps)
+
+ends_in : (t : TransferState) (s : List ℕ) (b : Bus) (calls : List EpCall) → StandsOf t s b calls → Rests t b → is_read s ≡ false → all_given s (given_of calls) ≡ true
+    → b.input ≡ Naks → b.met.taken ≡ false → is_done t ≡ true
+ends_in Idle s b calls x r n a i k = absurd x.past
+ends_in Refused s b calls x r n a i k = absurd r
+ends_in Over s b calls x r n a i k = absurd (let y : Naks ≡ Stalls = sym i ∙ r.0 in cc)
+ends_in (Reads left) s b calls x r n a i k = absurd (unlike (is_read s) x.past.0 n)
+ends_in (ReadDue left) s b calls x r n a i k = absurd (unlike (is_read s) x.past.0 n)
+ends_in Sent s b calls x r n a i k = absurd (unlike (is_read s) x.past.0 n)
+ends_in Closing s b calls x r n a i k = absurd r
+ends_in Closed s b calls x r n a i k = absurd (unlike (is_read s) x.past.0 n)
+ends_in Opening s b calls x r n a i k = absurd r
+ends_in Writes s b calls x r n a i k = absurd (unlike (all_given s (given_of calls)) a (none_given s (given_of calls) x.past.1))
+ends_in (Keeps packet) s b calls x r n a i k = absurd (unlike (all_given s (given_of calls)) a (none_given s (given_of calls) x.past.1))
+ends_in Asking s b calls x r n a i k = absurd r
+ends_in Due s b calls x r n a i k = absurd (unlike (all_given s (given_of calls)) a (due_given s (given_of calls) (heard_of calls) x.past.2))
+ends_in Status s b calls x r n a i k = elim x.buffer.0 [
+  | inl y ↦ absurd (let z : Naks ≡ Sends y.0 y.1 = sym i ∙ y.2 in cc)
+  | inr y ↦ absurd (unlike b.met.taken y.1 k)
+]
+ends_in Done s b calls x r n a i k = refl
+
+ends_by : (t : TransferState) (b : Bus) (calls : List EpCall) → Stands t b calls → Rests t b → HearsEnd (is_done t) b calls
+ends_by t b calls (inl x) r = λ s p e. absurd (let y : Some s ≡ None = sym e ∙ x.1 in cc)
+ends_by t b calls (inr (s, x)) r = λ z p e. (let y : Some s ≡ Some z = sym x.asked ∙ e in let same : s ≡ z = cc in
+    subst (λ y. is_read y ≡ false → all_given y (given_of calls) ≡ true → b.input ≡ Naks → b.met.taken ≡ false → is_done t ≡ true) same (ends_in t s b calls x r))
+
+pub hears_end : (t : TransferState) (b : Bus) (calls : List EpCall) → Link t b calls → NothingWithheld0 t b → HearsEnd (is_done t) b calls
+hears_end t b calls l n = λ s p. ends_by t b calls (l.current p).stands (n p) s p

@@ -1,7 +1,7 @@
 -- What keeps a device with its layer and its buffers in step.
 use Rattle.std.proofs.lemmas.Grind.{common_steps}
 use Rattle.std.proofs.Common.{arith}
-use Rattle.std.proofs.Common.{◌≡◌, inl, inr, ℕ, Bool, true, false, List, [], ◌∷◌, Option, Some, None, refl, sym, ap, subst, ◌∙◌}
+use Rattle.std.proofs.Common.{◌≡◌, ◌⊎◌, inl, inr, ℕ, Bool, true, false, List, [], ◌∷◌, ◌++◌, Option, Some, None, refl, sym, ap, subst, ◌∙◌, append_assoc}
 use Rattle.usb_device.specs.declared.answer.Endpoint1.{Endpoint1}
 use Rattle.usb_device.specs.declared.answer.Change.{Change}
 use Rattle.usb_device.specs.declared.answer.Change.TheVariants.{Address, Endpoint, Wakeup}
@@ -16,34 +16,143 @@ use Rattle.usb_device.specs.Steps.{LayerState, session, state_of, renewed_then}
 use Rattle.usb_device.specs.representation.Relation.{Refines}
 use Rattle.usb_device.specs.Through.{calls_of}
 use Rattle.usb_device.specs.representation.Layered.{PolledOnce, endpoint_set}
-use Rattle.usb_device.specs.Bus1.{Bus1, Got, New, Anew, GivenUp, Known, Happens1, takes, loses, host_begins, resets1, Goes1, agree, received, reported, unless_reset, filled, given_up, anew, known_if, no_polls, marks, Told, Is, HostBegan, told_of, InOrder, told, unheard, IsKnown}
-use Rattle.usb_device.specs.representation.Link1.{InStep, KeepsMarks, KeepsStates}
+use Rattle.usb_device.specs.Bus1.{Bus1, Got, New, Anew, GivenUp, Known, Happens1, takes, loses, host_begins, resets1, Goes1, Does1, happens1, looks1, fills1, Through1, IsMarked, Looked1, agree, received, reported, unless_reset, filled, given_up, anew, known_if, no_polls, marks, Told, Is, HostBegan, told_of, InOrder, told, unheard, IsKnown}
+use Rattle.usb_device.specs.representation.Link1.{InStep, KeepsMarks, KeepsStates, Leaves, Bides}
 use Rattle.usb_device.proofs.Linked.{takes_as}
 use Rattle.usb_device.proofs.Standing.{were_now}
 
-keeps_step : (b next : Bus1) → Happens1 b next → KeepsStates b next
-keeps_step b next h1 h2 = grind (arith, common_steps)
+-- what came beside packets
+pub marks_then : (b mid new : Bus1) → KeepsMarks b mid → KeepsMarks mid new → KeepsMarks b new
+marks_then b mid new k m r = let y = m r in let x = k y.0 in (x.0, y.1 ∙ x.1)
+
+marks_received : (a : Bool) (packet : List ℕ) (got : List Got) → marks (received a packet got) ≡ marks got
+marks_received true packet got = refl
+marks_received false packet got = refl
+
+marks_step1 : (b next : Bus1) → Happens1 b next → KeepsMarks b next
+marks_step1 b next (takes packet rest i e) = λ r. (sym (ap (λ (x : Bus1). x.reset) e) ∙ r, ap (λ (x : Bus1). marks x.got) e ∙ marks_received (agree b) packet b.got)
+marks_step1 b next (loses packet rest i e) = λ r. (sym (ap (λ (x : Bus1). x.reset) e) ∙ r, ap (λ (x : Bus1). marks x.got) e ∙ marks_received (agree b) packet b.got)
+marks_step1 b next (host_begins o e) = λ r. (sym (ap (λ (x : Bus1). x.reset) e) ∙ r, ap (λ (x : Bus1). marks x.got) e)
+marks_step1 b next (resets1 e) = λ r. absurd (let x : true ≡ false = sym (ap (λ (y : Bus1). y.reset) e) ∙ r in cc)
+
+filled_by_marks : (reset : Bool) (b other : Bus1) → other.reset ≡ b.reset → other.got ≡ b.got → KeepsMarks b (unless_reset reset b other)
+filled_by_marks true b other e f = λ r. (r, refl)
+filled_by_marks false b other e f = λ r. (sym e ∙ r, ap (λ x. marks x) f)
+
+does_marks : (b next : Bus1) → Does1 b next → KeepsMarks b next
+does_marks b next (happens1 h) = marks_step1 b next h
+does_marks b next (looks1 e) = let P : Bus1 → Type 0 = λ x. KeepsMarks b x in subst P (sym e) (λ r. (r, refl))
+does_marks b next (fills1 packet e) = let P : Bus1 → Type 0 = λ x. KeepsMarks b x in subst P (sym e) (filled_by_marks b.reset b _ refl refl)
+
+pub through_marks : (steps : List Bus1) (b next : Bus1) → Through1 steps b next → KeepsMarks b next
+through_marks [] b next e = λ r. (sym (ap (λ (x : Bus1). x.reset) e) ∙ r, ap (λ (x : Bus1). marks x.got) e)
+through_marks (mid ∷ rest) b next g = marks_then b mid next (does_marks b mid g.0) (through_marks rest mid next g.1)
+
+-- what is done to the buffers
+pub through_then : (steps rest : List Bus1) (b mid new : Bus1) → Through1 steps b mid → Through1 rest mid new → Through1 (steps ++ rest) b new
+through_then [] rest b mid new e r = let P : Bus1 → Type 0 = λ x. Through1 rest x new in subst P e r
+through_then (next ∷ steps) rest b mid new g r = (g.0, through_then steps rest next mid new g.1 r)
+
+pub goes_through : (steps : List Bus1) (b next : Bus1) → Goes1 steps b next → Through1 steps b next
+goes_through [] b next e = e
+goes_through (mid ∷ rest) b next g = (happens1 g.0, goes_through rest mid next g.1)
+
+pub filled_through : (steps : List Bus1) (b mid new : Bus1) (packet : List ℕ) → Goes1 steps b mid → new ≡ filled mid packet
+    → (all : List Bus1) × Through1 all b new
+filled_through steps b mid new packet g e = (steps ++ new ∷ [], through_then steps (new ∷ []) b mid new (goes_through steps b mid g) (fills1 packet e, refl))
+
+leaves_then : (b mid new : Bus1) → mid.reset ≡ false → new.reset ≡ false → Leaves b mid → Leaves mid new → Leaves b new
+leaves_then b mid new m r (inl x) (inl y) =
+    inl (y.0, y.1 ++ x.0 ∷ x.1, y.2 ∙ ap (λ z. (y.0 ∷ y.1) ++ z) x.2 ∙ sym (append_assoc (y.0 ∷ y.1) (x.0 ∷ x.1) (marks b.got)))
+leaves_then b mid new m r (inl x) (inr y) = inl (x.0, x.1, (through_marks y.0 mid new y.1 r).1 ∙ x.2)
+leaves_then b mid new m r (inr x) (inl y) = inl (y.0, y.1, y.2 ∙ ap (λ z. (y.0 ∷ y.1) ++ z) (through_marks x.0 b mid x.1 m).1)
+leaves_then b mid new m r (inr x) (inr y) = inr (x.0 ++ y.0, through_then x.0 y.0 b mid new x.1 y.1)
+
+pub bides_then : (b mid new : Bus1) → Bides b mid → Bides mid new → Bides b new
+bides_then b mid new k m r = let y = m r in let x = k y.0 in (x.0, leaves_then b mid new y.0 r x.1 y.1)
+
+pub bides_same : (b new : Bus1) → new ≡ b → Bides b new
+bides_same b new e = let P : Bus1 → Type 0 = λ x. Bides b x in subst P (sym e) (λ r. (r, inr ([], refl)))
+
+pub stays_bides : (reset : Bool) (b mid new : Bus1) → new ≡ mid → (reset ≡ true) ⊎ Bides b mid → (reset ≡ true) ⊎ Bides b new
+stays_bides reset b mid new e k = let P : Bus1 → Type 0 = λ x. (reset ≡ true) ⊎ Bides b x in subst P (sym e) k
+
+bides_goes : (steps : List Bus1) (b next : Bus1) → Goes1 steps b next → Bides b next
+bides_goes steps b next g r = let t = goes_through steps b next g in ((through_marks steps b next t r).0, inr (steps, t))
+
+bides_unless : (reset : Bool) (b other : Bus1) → Bides b other → Bides b (unless_reset reset b other)
+bides_unless true b other k = λ r. (r, inr ([], refl))
+bides_unless false b other k = k
+
+pub anew_bides : (steps : List Bus1) (b mid new : Bus1) (state : Endpoint1) → Goes1 steps b mid → new ≡ anew mid state → Bides b new
+anew_bides steps b mid new state g e =
+    let P : Bus1 → Type 0 = λ x. Bides mid x in
+    bides_then b mid new (bides_goes steps b mid g) (subst P (sym e) (bides_unless mid.reset mid _ (λ r. (r, inl (Anew state, [], refl)))))
+
+known_bides : (opened : Bool) (b : Bus1) → Bides b (known_if opened b)
+known_bides true b = λ r. (r, inl (Known, [], refl))
+known_bides false b = λ r. (r, inr ([], refl))
+
+pub agreed_bides : (steps : List Bus1) (b mid new : Bus1) → Goes1 steps b mid → new ≡ known_if mid.opened mid → Bides b new
+agreed_bides steps b mid new g e =
+    let P : Bus1 → Type 0 = λ x. Bides mid x in bides_then b mid new (bides_goes steps b mid g) (subst P (sym e) (known_bides mid.opened mid))
+
+-- what was taken is looked at
+pub looked : (steps : List Bus1) (b mid seen new : Bus1) (fill : List Bus1) → Goes1 steps b mid → seen ≡ reported mid → Through1 fill seen new → Looked1 b new
+looked steps b mid seen new fill g e t =
+    let P : Bus1 → Type 0 = λ x. Through1 fill x new in (steps, fill, mid, goes_through steps b mid g, subst P e t)
+
+pub looked_marks : (b new : Bus1) → Looked1 b new → KeepsMarks b new
+looked_marks b new l =
+    marks_then b l.2 new (through_marks l.0 b l.2 l.3) (marks_then l.2 (reported l.2) new (λ r. (r, refl)) (through_marks l.1 (reported l.2) new l.4))
+
+looks_by : (b mid new : Bus1) → marks new.got ≡ marks mid.got → Leaves b mid → Looked1 mid new → IsMarked b new ⊎ Looked1 b new
+looks_by b mid new e (inl x) l = inl (x.0, x.1, e ∙ x.2)
+looks_by b mid new e (inr x) l = inr (x.0 ++ l.0, l.1, l.2, through_then x.0 l.0 b mid l.2 x.1 l.3, l.4)
+
+pub looks_then : (b mid new : Bus1) → Bides b mid → Looked1 mid new → new.reset ≡ false → IsMarked b new ⊎ Looked1 b new
+looks_then b mid new k l r = let m = looked_marks mid new l r in looks_by b mid new m.1 (k m.0).1 l
+
+-- what was told, and that the host may begin anew
+KeepsTold : Bus1 → Bus1 → Type 0
+KeepsTold b new = new.reset ≡ false → (b.reset ≡ false) × (told_of new.got ≡ told_of b.got) × (b.opened ≡ true → new.opened ≡ true)
+
+told_step : (b next : Bus1) → Happens1 b next → KeepsTold b next
+unfolding KeepsTold
+told_step b next h1 h2 = grind (arith, common_steps)
+
+told_goes : (steps : List Bus1) (b next : Bus1) → Goes1 steps b next → KeepsTold b next
+unfolding KeepsTold
+told_goes [] b next e = let P : Bus1 → Type 0 = λ x. KeepsTold b x in subst P (sym e) (λ r. (r, refl, λ o. o))
+told_goes (mid ∷ rest) b next g = λ r.
+    let y = told_goes rest mid next g.1 r in let x = told_step b mid g.0 y.0 in (x.0, y.1 ∙ x.1, λ o. y.2 (x.2 o))
 
 pub keeps_then : (b mid new : Bus1) → KeepsStates b mid → KeepsStates mid new → KeepsStates b new
-keeps_then b mid new k m r = let y = m r in let x = k y.0 in (x.0, y.1 ∙ x.1, λ o. y.2 (x.2 o))
+keeps_then b mid new k m r = let y = m r in let x = k y.0 in (x.0, y.1 ∙ x.1, λ o. y.2 (x.2 o), leaves_then b mid new y.0 r x.3 y.3)
 
-pub keeps_goes : (steps : List Bus1) (b next : Bus1) → Goes1 steps b next → KeepsStates b next
-keeps_goes [] b next e = let P : Bus1 → Type 0 = λ x. KeepsStates b x in subst P (sym e) (λ r. (r, refl, λ o. o))
-keeps_goes (mid ∷ rest) b next g = keeps_then b mid next (keeps_step b mid g.0) (keeps_goes rest mid next g.1)
+pub keeps_same : (b new : Bus1) → new ≡ b → KeepsStates b new
+keeps_same b new e = let P : Bus1 → Type 0 = λ x. KeepsStates b x in subst P (sym e) (λ r. (r, refl, λ o. o, inr ([], refl)))
+
+pub keeps_bides : (b new : Bus1) → KeepsStates b new → Bides b new
+keeps_bides b new k r = let x = k r in (x.0, x.3)
+
+keeps_goes : (steps : List Bus1) (b next : Bus1) → Goes1 steps b next → KeepsStates b next
+unfolding KeepsTold
+keeps_goes steps b next g r = let x = told_goes steps b next g r in (x.0, x.1, x.2, inr (steps, goes_through steps b next g))
 
 keeps_unless : (reset : Bool) (b other : Bus1) → KeepsStates b other → KeepsStates b (unless_reset reset b other)
-keeps_unless true b other k = λ r. (r, refl, λ o. o)
+keeps_unless true b other k = keeps_same b b refl
 keeps_unless false b other k = k
 
 pub given_up_keeps : (steps : List Bus1) (b mid new : Bus1) → Goes1 steps b mid → new ≡ given_up mid → KeepsStates b new
 given_up_keeps steps b mid new g e =
     let P : Bus1 → Type 0 = λ x. KeepsStates mid x in
-    keeps_then b mid new (keeps_goes steps b mid g) (subst P (sym e) (keeps_unless mid.reset mid _ (λ r. (r, refl, λ o. o))))
+    keeps_then b mid new (keeps_goes steps b mid g) (subst P (sym e) (keeps_unless mid.reset mid _ (λ r. (r, refl, λ o. o, inl (GivenUp, [], refl)))))
 
 pub reported_keeps : (steps : List Bus1) (b mid new : Bus1) → Goes1 steps b mid → new ≡ reported mid → KeepsStates b new
 reported_keeps steps b mid new g e =
     let P : Bus1 → Type 0 = λ x. KeepsStates mid x in
-    keeps_then b mid new (keeps_goes steps b mid g) (subst P (sym e) (λ r. (r, refl, λ o. o)))
+    keeps_then b mid new (keeps_goes steps b mid g) (subst P (sym e) (λ r. (r, refl, λ o. o, inr (reported mid ∷ [], (looks1 refl, refl)))))
 
 pub states_in_step : (states : List Told) (b new : Bus1) → KeepsStates b new → InStep states b → InStep states new
 states_in_step states b new k h r = let m = k r in subst (λ x. InOrder x states) (sym m.1) (h m.0)
@@ -104,37 +213,6 @@ told_marks (Known ∷ before) = ap (λ x. HostBegan ∷ x) (told_marks before)
 pub marks_in_step : (states : List Told) (b new : Bus1) → KeepsMarks b new → InStep states b → InStep states new
 marks_in_step states b new k h r =
     let m = k r in subst (λ x. InOrder x states) (sym (sym (told_marks new.got) ∙ ap (λ x. told_of x) m.1 ∙ told_marks b.got)) (h m.0)
-
-pub marks_then : (b mid new : Bus1) → KeepsMarks b mid → KeepsMarks mid new → KeepsMarks b new
-marks_then b mid new k m r = let y = m r in let x = k y.0 in (x.0, y.1 ∙ x.1)
-
-marks_received : (a : Bool) (packet : List ℕ) (got : List Got) → marks (received a packet got) ≡ marks got
-marks_received true packet got = refl
-marks_received false packet got = refl
-
-marks_step1 : (b next : Bus1) → Happens1 b next → KeepsMarks b next
-marks_step1 b next (takes packet rest i e) = λ r. (sym (ap (λ (x : Bus1). x.reset) e) ∙ r, ap (λ (x : Bus1). marks x.got) e ∙ marks_received (agree b) packet b.got)
-marks_step1 b next (loses packet rest i e) = λ r. (sym (ap (λ (x : Bus1). x.reset) e) ∙ r, ap (λ (x : Bus1). marks x.got) e ∙ marks_received (agree b) packet b.got)
-marks_step1 b next (host_begins o e) = λ r. (sym (ap (λ (x : Bus1). x.reset) e) ∙ r, ap (λ (x : Bus1). marks x.got) e)
-marks_step1 b next (resets1 e) = λ r. absurd (let x : true ≡ false = sym (ap (λ (y : Bus1). y.reset) e) ∙ r in cc)
-
-pub goes_marks : (steps : List Bus1) (b next : Bus1) → Goes1 steps b next → KeepsMarks b next
-goes_marks [] b next e = λ r. (sym (ap (λ (x : Bus1). x.reset) e) ∙ r, ap (λ (x : Bus1). marks x.got) e)
-goes_marks (mid ∷ rest) b next g = marks_then b mid next (marks_step1 b mid g.0) (goes_marks rest mid next g.1)
-
-filled_by_marks : (reset : Bool) (b other : Bus1) → other.reset ≡ b.reset → other.got ≡ b.got → KeepsMarks b (unless_reset reset b other)
-filled_by_marks true b other e f = λ r. (r, refl)
-filled_by_marks false b other e f = λ r. (sym e ∙ r, ap (λ x. marks x) f)
-
-pub filled_marks : (steps : List Bus1) (b mid new : Bus1) (packet : List ℕ) → Goes1 steps b mid → new ≡ filled mid packet → KeepsMarks b new
-filled_marks steps b mid new packet g e =
-    let P : Bus1 → Type 0 = λ x. KeepsMarks mid x in
-    marks_then b mid new (goes_marks steps b mid g) (subst P (sym e) (filled_by_marks mid.reset mid _ refl refl))
-
-pub reported_marks : (steps : List Bus1) (b mid new : Bus1) → Goes1 steps b mid → new ≡ reported mid → KeepsMarks b new
-reported_marks steps b mid new g e =
-    let P : Bus1 → Type 0 = λ x. KeepsMarks mid x in
-    marks_then b mid new (goes_marks steps b mid g) (subst P (sym e) (λ r. (r, refl)))
 
 pub marks_known : (b new : Bus1) → KeepsMarks b new → (b.reset ≡ false → IsKnown b.got) → new.reset ≡ false → IsKnown new.got
 marks_known b new k h r = let m = k r in let y = h m.0 in (y.0, m.1 ∙ y.1)

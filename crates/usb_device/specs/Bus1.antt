@@ -214,6 +214,25 @@ marks (mark ∷ before) = mark ∷ marks before
 abbrev pub IsKnown : List Got → Type 0
 IsKnown got = (before : List Got) × (marks got ≡ Known ∷ before)
 
+-- one thing is done: the driver is asked what was taken, or a packet is put into a buffer, or something happens on the bus
+pub data Does1 (b next : Bus1) : Type 0 where
+  happens1 : Happens1 b next → Does1 b next
+  looks1 : next ≡ reported b → Does1 b next
+  fills1 : (packet : List ℕ) → next ≡ filled b packet → Does1 b next
+
+-- any number of them, through these
+abbrev pub Through1 : List Bus1 → Bus1 → Bus1 → Type 0
+Through1 [] b next = next ≡ b
+Through1 (mid ∷ rest) b next = Does1 b mid × Through1 rest mid next
+
+-- at a moment between, the driver was asked what the host had taken: what is taken behind it came since
+abbrev pub Looked1 : Bus1 → Bus1 → Type 0
+Looked1 b new = (before after : List Bus1) × (mid : Bus1) × Through1 before b mid × Through1 after (reported mid) new
+
+-- the buffers were emptied, or the host is known to have begun anew
+abbrev pub IsMarked : Bus1 → Bus1 → Type 0
+IsMarked b new = (mark : Got) × (since : List Got) × (marks new.got ≡ (mark ∷ since) ++ marks b.got)
+
 -- the calls but for the polls
 abbrev pub no_polls : List EpCall → List EpCall
 no_polls [] = []

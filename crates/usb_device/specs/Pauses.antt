@@ -9,7 +9,7 @@ use Rattle.usb_device.specs.Events.{Event, SetupCame, OutCame, InAsked, PollAske
 use Rattle.usb_device.specs.Requests.{Lent}
 use Rattle.usb_device.specs.Steps.{polled_of}
 use Rattle.usb_device.specs.States.{is_empty_packet, setup_in, completed, endpoint_by, has_renewed}
-use Rattle.usb_device.specs.Bus1.{Bus1, IsKnown, sets_protocol}
+use Rattle.usb_device.specs.Bus1.{Bus1, IsKnown, IsMarked, Looked1, sets_protocol}
 
 abbrev pub sets_endpoint : Option Change → Bool
 sets_endpoint (Some (Endpoint state)) = true
@@ -78,6 +78,16 @@ Hands b asked = (nat_lt 0 (length b.slots + b.taken) ≡ true) ⊎ HasNone asked
 -- where the device is configured and endpoint 1 not halted, where it waits for nothing, and no reset is to be looked at, it is so
 abbrev pub ServesReports : Lent → List Event → Bus1 → List Event → Type 0
 ServesReports lent past b asked = endpoint_by lent past ≡ Ready → pause_of lent past ≡ 0 → b.reset ≡ false → Hands b asked
+
+abbrev pub has_reset : List Event → Bool
+has_reset [] = false
+has_reset (ResetCame ∷ before) = true
+has_reset (_ ∷ before) = has_reset before
+
+-- what the host has taken is looked at in each call, so that another report can follow: unless the bus was reset, or what came over
+-- endpoint 0 has emptied the buffers
+abbrev pub LooksAtReports : List Event → Bus1 → Bus1 → Type 0
+LooksAtReports met b new = has_reset met ≡ false → new.reset ≡ false → IsMarked b new ⊎ Looked1 b new
 
 -- where the transfer under way has set endpoint 1, no packet was handed over since, or a reset is to be looked at
 abbrev pub IsUnsent : Lent → List Event → Bus1 → Type 0

@@ -134,6 +134,12 @@ pub record Answers (b : Bus) (calls since : List EpCall) : Type 0 where
   pub hears : (setup : List ℕ) → asked_of calls ≡ Some setup → Hears b calls since
   pub due : (setup : List ℕ) → asked_of calls ≡ Some setup → AsksDue setup (outs_of b.seen) calls
 
+-- the device hears that the host has the status packet: where it is known to have all of a transfer that is no read, that is done
+abbrev pub HearsEnd : Bool → Bus → List EpCall → Type 0
+HearsEnd done b calls =
+    (setup : List ℕ) → is_pending b.met ≡ false → asked_of calls ≡ Some setup → is_read setup ≡ false → all_given setup (given_of calls) ≡ true
+    → b.input ≡ Naks → b.met.taken ≡ false → done ≡ true
+
 -- all that the host had sent at a moment of the call was handed on, and then the device was asked, in this call; and the buffers answer so,
 -- unless a SETUP packet or a reset has come that was not looked at
 abbrev pub Looks : Bus → Bus → List EpCall → List EpCall → Type 0

@@ -8,13 +8,13 @@ ghost use Rattle.usb_device.specs.States.{has_renewed, wakes_by};
 ghost use Rattle.usb_device.specs.representation.Relation.{Refines};
 ghost use Rattle.usb_device.specs.declared.answer.Endpoint1.{Endpoint1};
 ghost use Rattle.usb_device.specs.Calls.{EpCall, Polled, Out};
-ghost use Rattle.usb_device.specs.Bus1.{Told, no_polls, room_of, blank, IsKnown, OnlyReported};
+ghost use Rattle.usb_device.specs.Bus1.{Told, no_polls, room_of, blank, IsKnown, Looked1, OnlyReported};
 ghost use Rattle.usb_device.specs.Requests.{Lent};
 ghost use Rattle.usb_device.specs.Events.{Event, OutCame, SuspendCame, ResumeCame, WakeAsked, StatusSeen, ScanCame};
 ghost use Rattle.usb_device.specs.Pauses.{ArePolls, Hands, HasNone, pause_by, sets_endpoint};
 ghost use Rattle.usb_device.specs.Through.{calls_of};
 ghost use Rattle.usb_device.specs.representation.Paused.{GoesOn};
-ghost use Rattle.usb_device.specs.representation.Link1.{Link1, size_of, InStep, KeepsMarks, NothingWithheld, may_send};
+ghost use Rattle.usb_device.specs.representation.Link1.{Link1, size_of, InStep, Bides, NothingWithheld, may_send};
 ghost use Rattle.usb_device.specs.representation.Layered.{Layered, PolledOnce, endpoint_set, with_state, is_ready, report_waits};
 
 use crate::buffers::Buffers;
@@ -46,6 +46,7 @@ fn follow<B: Buffers>(change: Option<Change>, buffers: &mut B, reports: &mut Rep
     ensures reported { (states : List Told) → InStep states (B.bus buffers.old)
         → InStep (with_state (endpoint_set change) states) (B.bus buffers.new) }
     ensures opened { (state : Endpoint1) → endpoint_set change ≡ Some state → (B.bus buffers.new).reset ≡ false → (B.bus buffers.new).opened ≡ true }
+    ensures bides { Bides (B.bus buffers.old) (B.bus buffers.new) }
     ensures same { endpoint_set change ≡ None → buffers.new ≡ buffers.old }
     ensures waits { reports.new.left ≡ pause_by (sets_endpoint change) reports.old.left }
     ensures size { reports.new.size ≡ reports.old.size }
@@ -105,6 +106,7 @@ impl<'a, E: Endpoints, B: Buffers> Device<'a, E, B> {
             → Layered E.refines lent (StatusSeen ∷ past) self.new.layer self.new.behind self.new.reports (B.bus self.new.buffers) }
         ensures others { (lent : Lent) (past : List Event) → Refines lent past self.old.layer → has_renewed lent past ≡ false
             → (self.new.buffers ≡ self.old.buffers) × (self.new.reports ≡ record self.old.reports { left = 0 }) }
+        ensures bides { Bides (B.bus self.old.buffers) (B.bus self.new.buffers) }
         ensures known { self.old.layer.renewed ≡ true → ((B.bus self.old.buffers).reset ≡ false → (B.bus self.old.buffers).opened ≡ true)
             → (B.bus self.new.buffers).reset ≡ false → IsKnown (B.bus self.new.buffers).got }
         ensures behind { self.new.behind ≡ self.old.behind }
@@ -176,9 +178,9 @@ impl<'a, E: Endpoints, B: Buffers> Device<'a, E, B> {
             → (asked : List Event) × Layered E.refines lent (asked ++ past) self.new.layer self.new.behind self.new.reports (B.bus self.new.buffers)
             × ArePolls asked × (may_send (is_ready self.old.layer.endpoint) self.old.reports.left ≡ true → (B.bus self.new.buffers).reset ≡ false
             → Hands (B.bus self.new.buffers) asked) }
-        ensures marks { (lent : Lent) (past : List Event)
+        ensures looks { (lent : Lent) (past : List Event)
             → Layered E.refines lent past self.old.layer self.old.behind self.old.reports (B.bus self.old.buffers)
-            → KeepsMarks (B.bus self.old.buffers) (B.bus self.new.buffers) }
+            → Looked1 (B.bus self.old.buffers) (B.bus self.new.buffers) }
         ensures waits { self.new.reports.left ≡ self.old.reports.left }
         ensures same { self.new.layer.endpoint ≡ self.old.layer.endpoint }
         ensures kept { (from : E) → E.keeps from self.old.behind → E.keeps from self.new.behind }

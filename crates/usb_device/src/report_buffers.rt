@@ -3,12 +3,12 @@
 ghost use Rattle.std.specs.Prelude.{◌≡◌, ◌⊎◌, ◌+◌, ◌-◌, ◌/◌, ◌∷◌, ◌<◌, nat_lt, suc, Bool, true, false, List, [], Some, ◌==◌, ◌&&◌};
 ghost use Rattle.usb_device.specs.declared.answer.Endpoint1.{Endpoint1};
 ghost use Rattle.usb_device.specs.Calls.{EpCall, SetUp, In, BusReset, Polled};
-ghost use Rattle.usb_device.specs.Bus1.{Bus1, Told, HostBegan, room_of, reported, anew, blank, Changed, sent_of, is_old, newest, sets_protocol, IsKnown};
+ghost use Rattle.usb_device.specs.Bus1.{Bus1, Told, HostBegan, room_of, reported, anew, blank, Changed, sent_of, is_old, newest, sets_protocol, IsKnown, Through1};
 ghost use Rattle.usb_device.specs.Confirmed.{asked_of};
 ghost use Rattle.usb_device.specs.States.{is_empty_packet};
 ghost use Rattle.usb_device.specs.Reports.{count_of};
 ghost use Rattle.usb_device.specs.Pauses.{pause_by};
-ghost use Rattle.usb_device.specs.representation.Link1.{ReportState, Link1, size_of, to_hand, is_more, is_over, is_begun, is_under_way, IsHeld, InStep, KeepsMarks, KeepsStates};
+ghost use Rattle.usb_device.specs.representation.Link1.{ReportState, Link1, size_of, to_hand, is_more, is_over, is_begun, is_under_way, IsHeld, InStep, Bides, KeepsStates};
 ghost use Rattle.usb_device.specs.declared.report_buffers.Course.TheVariants.{Rests, Begins, Goes};
 
 use crate::packets::{behind, first_bytes, held};
@@ -167,6 +167,7 @@ impl ReportBuffers {
     pub fn agree<B: Buffers>(&mut self, buffers: &mut B)
         ensures linked { (calls : List EpCall) → Link1 self.old (B.bus buffers.old) calls → Link1 self.new (B.bus buffers.new) calls }
         ensures reported { (states : List Told) → InStep states (B.bus buffers.old) → InStep (HostBegan ∷ states) (B.bus buffers.new) }
+        ensures bides { Bides (B.bus buffers.old) (B.bus buffers.new) }
         ensures known { ((B.bus buffers.old).reset ≡ false → (B.bus buffers.old).opened ≡ true) → (B.bus buffers.new).reset ≡ false → IsKnown (B.bus buffers.new).got }
         ensures waits { self.new.left ≡ self.old.left }
         ensures size { self.new.size ≡ self.old.size }
@@ -378,7 +379,7 @@ impl ReportBuffers {
     pub fn fill<B: Buffers>(&mut self, buffers: &mut B)
         ensures linked { (calls : List EpCall) → Link1 self.old (B.bus buffers.old) calls → Link1 self.new (B.bus buffers.new) calls }
         ensures held { (self.new.course ≡ Goes) × IsHeld (room_of B.two) self.new ⊎ (self.old.course ≡ Rests) × (buffers.new ≡ buffers.old) × (self.new ≡ self.old) }
-        ensures marks { (calls : List EpCall) → Link1 self.old (B.bus buffers.old) calls → KeepsMarks (B.bus buffers.old) (B.bus buffers.new) }
+        ensures fills { (calls : List EpCall) → Link1 self.old (B.bus buffers.old) calls → (steps : List Bus1) × Through1 steps (B.bus buffers.old) (B.bus buffers.new) }
         ensures waits { self.new.left ≡ self.old.left }
         ensures size { self.new.size ≡ self.old.size }
     {
@@ -401,8 +402,8 @@ impl ReportBuffers {
             → Link1 self.new (B.bus buffers.new) calls }
         ensures goes { self.new.course ≡ Goes }
         ensures one { self.new.buffered ≡ 1 }
-        ensures marks { (calls : List EpCall) → self.old.course ≡ Begins → Link1 self.old (B.bus buffers.old) calls
-            → KeepsMarks (B.bus buffers.old) (B.bus buffers.new) }
+        ensures fills { (calls : List EpCall) → self.old.course ≡ Begins → Link1 self.old (B.bus buffers.old) calls
+            → (steps : List Bus1) × Through1 steps (B.bus buffers.old) (B.bus buffers.new) }
         ensures waits { self.new.left ≡ self.old.left }
         ensures size { self.new.size ≡ self.old.size }
     {
@@ -420,8 +421,8 @@ impl ReportBuffers {
         ensures goes { self.new.course ≡ self.old.course }
         ensures none { IsHeld (room_of B.two) self.old → self.new ≡ self.old }
         ensures more { (self.new ≡ self.old) × IsHeld (room_of B.two) self.old ⊎ (self.new.buffered ≡ self.old.buffered + 1) }
-        ensures marks { (calls : List EpCall) → self.old.course ≡ Goes → Link1 self.old (B.bus buffers.old) calls
-            → KeepsMarks (B.bus buffers.old) (B.bus buffers.new) }
+        ensures fills { (calls : List EpCall) → self.old.course ≡ Goes → Link1 self.old (B.bus buffers.old) calls
+            → (steps : List Bus1) × Through1 steps (B.bus buffers.old) (B.bus buffers.new) }
         ensures waits { self.new.left ≡ self.old.left }
         ensures size { self.new.size ≡ self.old.size }
     {

@@ -6,8 +6,8 @@ ghost use Rattle.usb_device.specs.Addresses.{Addressed, Tells};
 ghost use Rattle.usb_device.specs.Bus.{Bus, Goes};
 ghost use Rattle.usb_device.specs.Bus1.{KeptOrReset, blank, room_of, IsKnown};
 ghost use Rattle.usb_device.specs.Requests.{Lent};
-ghost use Rattle.usb_device.specs.Served.{Looks};
-ghost use Rattle.usb_device.specs.Pauses.{AreMet, ArePolls, KnowsHost, ServesReports, seen_if};
+ghost use Rattle.usb_device.specs.Served.{HearsEnd, Looks};
+ghost use Rattle.usb_device.specs.Pauses.{AreMet, ArePolls, KnowsHost, LooksAtReports, ServesReports, seen_if};
 ghost use Rattle.usb_device.specs.Events.{Event, SuspendCame, ResumeCame, WakeAsked, ScanCame};
 ghost use Rattle.usb_device.specs.States.{wakes_by};
 ghost use Rattle.usb_device.specs.Through.{calls_of};
@@ -15,7 +15,7 @@ ghost use Rattle.usb_device.specs.Transfers.{Idle, is_done};
 ghost use Rattle.usb_device.specs.Guarding.{GuardCall, Locked};
 ghost use Rattle.usb_device.specs.representation.Guarded.{Guards, guarded_refines};
 ghost use Rattle.usb_device.specs.representation.Relation.{Refines};
-ghost use Rattle.usb_device.specs.representation.Link1.{size_of, NothingWithheld, may_send};
+ghost use Rattle.usb_device.specs.representation.Link1.{size_of, Bides, NothingWithheld, may_send};
 ghost use Rattle.usb_device.specs.representation.Layered.{Layered, Runs, is_ready, report_waits};
 
 use crate::buffers::Buffers;
@@ -155,13 +155,15 @@ impl<'a, E: Endpoints, B: Buffers> UsbDevice<'a, E, B> {
             (B.bus self.new.device.buffers) (calls_of since)
             × Addressed (is_done self.new.control) self.new.device.layer.due (C.bus controller.new).met.reset calls later (C.address_of controller.old) (C.address_of controller.new)
             × KeptOrReset calls later
-            × Looks (C.bus controller.old) (C.bus controller.new) calls later }
+            × Looks (C.bus controller.old) (C.bus controller.new) calls later
+            × HearsEnd (is_done self.new.control) (C.bus controller.new) later }
         ensures goes_on { (lent : Lent) (past : List Event)
             → Layered E.refines lent past self.old.device.layer self.old.device.behind self.old.device.reports (B.bus self.old.device.buffers)
             → (met asked : List Event)
             × Layered E.refines lent (asked ++ seen_if (is_done self.new.control) (met ++ past)) self.new.device.layer self.new.device.behind self.new.device.reports (B.bus self.new.device.buffers)
             × AreMet met × ArePolls asked
             × ServesReports lent (asked ++ seen_if (is_done self.new.control) (met ++ past)) (B.bus self.new.device.buffers) asked
+            × LooksAtReports met (B.bus self.old.device.buffers) (B.bus self.new.device.buffers)
             × KnowsHost (is_done self.new.control) lent past (asked ++ seen_if (is_done self.new.control) (met ++ past)) (B.bus self.old.device.buffers) (B.bus self.new.device.buffers) }
         ensures kept { (from : E) → E.keeps from self.old.device.behind → E.keeps from self.new.device.behind }
         ensures size { self.new.device.reports.size ≡ self.old.device.reports.size }
@@ -231,6 +233,7 @@ impl<'a, E: Endpoints, B: Buffers> UsbDevice<'a, E, B> {
         ensures refines { (lent : Lent) (past : List Event)
             → Layered E.refines lent past self.old.device.layer self.old.device.behind self.old.device.reports (B.bus self.old.device.buffers)
             → Layered E.refines lent (seen_if (is_done self.new.control) past) self.new.device.layer self.new.device.behind self.new.device.reports (B.bus self.new.device.buffers) }
+        ensures bides { Bides (B.bus self.old.device.buffers) (B.bus self.new.device.buffers) }
         ensures agreed { is_done self.new.control ≡ true → self.old.device.layer.renewed ≡ true
             → ((B.bus self.old.device.buffers).reset ≡ false → (B.bus self.old.device.buffers).opened ≡ true)
             → (B.bus self.new.device.buffers).reset ≡ false → IsKnown (B.bus self.new.device.buffers).got }

@@ -6,7 +6,7 @@ use Rattle.usb_device.specs.declared.report_buffers.Course.{Course}
 use Rattle.usb_device.specs.declared.report_buffers.Course.TheVariants.{Rests, Begins, Goes}
 use Rattle.usb_device.specs.Calls.{EpCall, Polled}
 use Rattle.usb_device.specs.Confirmed.{asked_of}
-use Rattle.usb_device.specs.Bus1.{Bus1, blank, agree, Sent, Reported, sent_of, is_old, newest, sets_protocol, marks, Told, told_of, InOrder}
+use Rattle.usb_device.specs.Bus1.{Bus1, blank, agree, Sent, Reported, sent_of, is_old, newest, sets_protocol, marks, Told, told_of, InOrder, Through1, IsMarked}
 use Rattle.usb_device.specs.Reports.{cut, count_of, packets_of, with_new, IsPacket, HasNew, IsEmptied, MayRepeat, MayFollow, Carries, Begun}
 
 abbrev pub size_of : PacketSize → ℕ
@@ -150,10 +150,17 @@ pub data NothingWithheld (may : Bool) (room : ℕ) (s : ReportState) (b : Bus1) 
 abbrev pub InStep : List Told → Bus1 → Type 0
 InStep states b = b.reset ≡ false → InOrder (told_of b.got) states
 
+-- nothing was done to the buffers but that they were looked at or filled; or they were emptied
+abbrev pub Leaves : Bus1 → Bus1 → Type 0
+Leaves b new = IsMarked b new ⊎ ((steps : List Bus1) × Through1 steps b new)
+
+abbrev pub Bides : Bus1 → Bus1 → Type 0
+Bides b new = new.reset ≡ false → (b.reset ≡ false) × Leaves b new
+
 -- what was told of endpoint 1 is the same, and the host may begin anew where it might
 abbrev pub KeepsStates : Bus1 → Bus1 → Type 0
 KeepsStates b new =
-    new.reset ≡ false → (b.reset ≡ false) × (told_of new.got ≡ told_of b.got) × (b.opened ≡ true → new.opened ≡ true)
+    new.reset ≡ false → (b.reset ≡ false) × (told_of new.got ≡ told_of b.got) × (b.opened ≡ true → new.opened ≡ true) × Leaves b new
 
 -- nothing came but packets
 abbrev pub KeepsMarks : Bus1 → Bus1 → Type 0

@@ -1,10 +1,10 @@
-use Rattle.std.proofs.Common.{Option, true, sym, ap, subst, ◌∙◌}
+use Rattle.std.proofs.Common.{Option, true, refl, sym, ap, subst, ◌∙◌}
 use Rattle.usb_device.specs.declared.answer.Endpoint1.{Endpoint1}
 use Rattle.usb_device.specs.Bus1.{Bus1}
 use Rattle.usb_device.specs.representation.Link1.{Link1, InStep}
 use Rattle.usb_device.specs.representation.Layered.{with_state}
 use Rattle.usb_device.proofs.Reporting.{goes1}
-use Rattle.usb_device.proofs.Layering.{anew_in_step, anew_opened, states_in_step}
+use Rattle.usb_device.proofs.Layering.{anew_in_step, anew_opened, anew_bides, bides_same, bides_then, keeps_bides, states_in_step}
 use Rattle.usb_device.proofs.Pausing.{sets_some, sets_none, pause_no}
 use Rattle.usb_device.specs.Pauses.{pause_by}
 use Rattle.usb_device.proofs.device.follow.Goals as goal
@@ -36,3 +36,14 @@ returns-in-None-clause-waits g c =
 
 pub returns-in-Some-clause-opened : goal.returns-in-Some-clause-opened
 returns-in-Some-clause-opened g c = λ state e. let i = c.begin_anew.ensures in anew_opened i.1 (g.B.Buffers.bus c.begin_anew.new.self) c.in-Some.state i.3
+
+pub returns-in-Some-clause-bides : goal.returns-in-Some-clause-bides
+returns-in-Some-clause-bides g c =
+    let b = g.B.Buffers.bus in
+    let i = c.begin_anew.ensures in
+    bides_then (b c.args.buffers.now) (b c.give_up_old.new.buffers) (b c.begin_anew.new.self)
+    (keeps_bides (b c.args.buffers.now) (b c.give_up_old.new.buffers) c.give_up_old.ensures.reported)
+    (anew_bides i.0 (b c.give_up_old.new.buffers) i.1 (b c.begin_anew.new.self) c.in-Some.state i.2 i.3)
+
+pub returns-in-None-clause-bides : goal.returns-in-None-clause-bides
+returns-in-None-clause-bides g c = bides_same _ _ refl

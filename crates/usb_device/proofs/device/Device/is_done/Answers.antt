@@ -1,4 +1,4 @@
-use Rattle.std.proofs.Common.{List, sym, ap, subst, ◌∙◌}
+use Rattle.std.proofs.Common.{List, refl, sym, ap, subst, ◌∙◌}
 use Rattle.usb_device.specs.Calls.{EpCall}
 use Rattle.usb_device.specs.representation.Link1.{ReportState, InStep}
 use Rattle.usb_device.specs.Steps.{LayerState}
@@ -6,7 +6,7 @@ use Rattle.usb_device.specs.Through.{calls_of}
 use Rattle.usb_device.specs.representation.Layered.{host_began_if, to_tell}
 use Rattle.usb_device.proofs.Carrying.{true_false}
 use Rattle.usb_device.proofs.Stating.{standing}
-use Rattle.usb_device.proofs.Layering.{seen_refines, seen_session}
+use Rattle.usb_device.proofs.Layering.{bides_same, seen_refines, seen_session}
 use Rattle.usb_device.proofs.device.Device.is_done.Goals as goal
 
 pub returns-then-has_renewed-clause-refines : goal.returns-then-has_renewed-clause-refines
@@ -37,3 +37,6 @@ pub returns-then-has_renewed-clause-others : goal.returns-then-has_renewed-claus
 returns-then-has_renewed-clause-others g c = λ lent past h n.
     let r = sym c.if-has_renewed.true ∙ c.has_renewed.ensures in
     absurd (true_false (r ∙ ap (λ (s : LayerState). s.renewed) h.state ∙ (standing lent past h.answered).renewed ∙ n))
+
+pub returns-else-has_renewed-clause-bides : goal.returns-else-has_renewed-clause-bides
+returns-else-has_renewed-clause-bides g c = bides_same _ _ refl

@@ -1,11 +1,11 @@
 use Rattle.std.proofs.Common.{◌≡◌, ◌==◌, ℕ, true, false, [], ◌++◌, refl, sym, ap, subst, inl, inr, ◌∙◌}
 use Rattle.usb_device.specs.Bus1.{Bus1, room_of}
 use Rattle.usb_device.specs.Through.{calls_of}
-use Rattle.usb_device.specs.representation.Link1.{ReportState, Link1, KeepsMarks, NothingWithheld, may_send, may_not}
+use Rattle.usb_device.specs.representation.Link1.{ReportState, Link1, NothingWithheld, may_send, may_not}
 use Rattle.usb_device.specs.representation.Layered.{is_ready, to_tell}
 use Rattle.usb_device.proofs.Reporting.{goes1}
 use Rattle.usb_device.proofs.Handing.{goes_held, rests_none, may_by, may_unknown, may_unready}
-use Rattle.usb_device.proofs.Layering.{reported_in_step, marks_in_step, marks_then, reported_marks}
+use Rattle.usb_device.proofs.Layering.{reported_in_step, marks_in_step, looked, through_marks}
 use Rattle.usb_device.proofs.Pausing.{goes_some}
 use Rattle.usb_device.proofs.device.Device.serve_reports.Goals.{else-is_ready-via-then-is_ready+else-is_known, else-is_ready-via-else-is_ready}
 use Rattle.usb_device.proofs.device.Device.serve_reports.Goals as goal
@@ -32,7 +32,7 @@ returns-then-is_known-clause-refines g c = λ lent past h.
     ]
     in (
       a.0,
-      (a.1.0, a.1.1, end, marks_in_step (to_tell lent a.0) (g.B.Buffers.bus c.ask.new.self.buffers) new (c.fill.ensures.marks (calls_of a.0) a.1.2) a.1.3, c.fill.ensures.waits ∙ a.1.4),
+      (a.1.0, a.1.1, end, (let f = c.fill.ensures.fills (calls_of a.0) a.1.2 in marks_in_step (to_tell lent a.0) (g.B.Buffers.bus c.ask.new.self.buffers) new (through_marks f.0 _ new f.1) a.1.3), c.fill.ensures.waits ∙ a.1.4),
       nothing,
       a.3,
       λ n. absurd (let x : true ≡ false = sym now ∙ n in cc),
@@ -72,7 +72,7 @@ returns-then-is_known-clause-asked g c = λ lent past h.
     let all = a.0 ++ past in
     let end = c.fill.ensures.linked (calls_of all) a.1.2 in (
       a.0,
-      (a.1.0, a.1.1, end, marks_in_step (to_tell lent all) (g.B.Buffers.bus c.ask.new.self.buffers) new (c.fill.ensures.marks (calls_of all) a.1.2) a.1.3, c.fill.ensures.waits ∙ a.1.4),
+      (a.1.0, a.1.1, end, (let f = c.fill.ensures.fills (calls_of all) a.1.2 in marks_in_step (to_tell lent all) (g.B.Buffers.bus c.ask.new.self.buffers) new (through_marks f.0 _ new f.1) a.1.3), c.fill.ensures.waits ∙ a.1.4),
       a.2,
       λ m r. elim c.fill.ensures.held [ inl x ↦ inl (goes_some g.B.Buffers.two c.fill.new.self new (calls_of all) x.0 end x.1 r) | inr x ↦ inr (a.3 x.0) ],
     )
@@ -93,8 +93,8 @@ returns-else-is_ready-clause-asked g c = λ lent past h.
     ]
     in ([], (h.0, h.1, linked, reported_in_step t.0 (to_tell lent past) old t.1 seen t.2 t.4 h.3, c.taken.ensures.waits ∙ h.4), tt, λ m r. absurd (let x : true ≡ false = sym m ∙ may in cc))
 
-pub returns-then-is_known-clause-marks : goal.returns-then-is_known-clause-marks
-returns-then-is_known-clause-marks g c = λ lent past h.
+pub returns-then-is_known-clause-looks : goal.returns-then-is_known-clause-looks
+returns-then-is_known-clause-looks g c = λ lent past h.
     let b = g.B.Buffers.bus in
     let old = b c.args.self.now.buffers in
     let seen = b c.taken_1-count.new.self in
@@ -102,11 +102,10 @@ returns-then-is_known-clause-marks g c = λ lent past h.
     let P : Bus1 → Type 0 = λ x. Link1 c.taken.new.self x (calls_of past) in
     let linked = subst P (sym t.4) (c.taken.ensures.linked t.1 (calls_of past) (sym t.3) (goes1 t.0 c.args.self.now.reports old t.1 (calls_of past) t.2 h.2)) in
     let a = c.ask.ensures.asked lent past (h.0, h.1, linked, reported_in_step t.0 (to_tell lent past) old t.1 seen t.2 t.4 h.3, c.taken.ensures.waits ∙ h.4) in
-    marks_then old (b c.ask.new.self.buffers) (b c.fill.new.buffers)
-    (marks_then old seen (b c.ask.new.self.buffers) (reported_marks t.0 old t.1 seen t.2 t.4) (subst (λ x. KeepsMarks seen (g.B.Buffers.bus x)) (sym c.ask.ensures.buffers) (λ r. (r, refl))))
-    (c.fill.ensures.marks (calls_of (a.0 ++ past)) a.1.2)
+    let f = c.fill.ensures.fills (calls_of (a.0 ++ past)) a.1.2 in
+    looked t.0 old t.1 (b c.ask.new.self.buffers) (b c.fill.new.buffers) f.0 t.2 (ap b c.ask.ensures.buffers ∙ t.4) f.1
 
-pub returns-else-is_ready-clause-marks : goal.returns-else-is_ready-clause-marks
-returns-else-is_ready-clause-marks g c = λ lent past h.
+pub returns-else-is_ready-clause-looks : goal.returns-else-is_ready-clause-looks
+returns-else-is_ready-clause-looks g c = λ lent past h.
     let t = c.taken_1-count.ensures in
-    reported_marks t.0 (g.B.Buffers.bus c.args.self.now.buffers) t.1 (g.B.Buffers.bus c.taken_1-count.new.self) t.2 t.4
+    looked t.0 (g.B.Buffers.bus c.args.self.now.buffers) t.1 (g.B.Buffers.bus c.taken_1-count.new.self) _ [] t.2 t.4 refl

@@ -1,4 +1,4 @@
-use Rattle.std.proofs.Common.{[], ◌∷◌, ◌++◌, sym, ap, subst, ◌∙◌}
+use Rattle.std.proofs.Common.{[], ◌∷◌, ◌++◌, refl, inl, sym, ap, subst, ◌∙◌}
 use Rattle.usb_device.specs.Calls.{BusReset}
 use Rattle.usb_device.specs.Events.{ResetCame}
 use Rattle.usb_device.specs.Bus1.{Bus1, none}
@@ -22,6 +22,6 @@ returns-clause-kept g c = λ from k.
           let all = y.0 ++ past in
           let P : Bus1 → Type 0 = λ x. Link1 c.reset.new.self x (BusReset ∷ calls_of all) × InStep [] x in
           let q = subst P (sym c.forget.ensures) (c.reset.ensures.linked (calls_of all), λ _. none) in
-          (ResetCame ∷ y.0, (e.refines lent all y.1.0, e.session lent all y.1.0 y.1.1, q.0, q.1, c.reset.ensures.waits), y.2, λ u. unsent_reset lent all (g.B.Buffers.bus c.forget.new.self))),
+          (ResetCame ∷ y.0, (e.refines lent all y.1.0, e.session lent all y.1.0 y.1.1, q.0, q.1, c.reset.ensures.waits), y.2, λ u. unsent_reset lent all (g.B.Buffers.bus c.forget.new.self), inl refl)),
       c.reset.ensures.size ∙ k.2,
     )

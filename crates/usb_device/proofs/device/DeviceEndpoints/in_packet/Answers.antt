@@ -1,4 +1,4 @@
-use Rattle.std.proofs.Common.{◌∷◌, ◌++◌, ◌≡◌, Option, ◌∙◌, ap, subst}
+use Rattle.std.proofs.Common.{◌∷◌, ◌++◌, ◌≡◌, Option, ◌∙◌, ap, subst, inl, inr}
 use Rattle.usb_device.specs.declared.answer.Change.{Change}
 use Rattle.usb_device.specs.Calls.{In}
 use Rattle.usb_device.specs.Events.{InAsked}
@@ -7,7 +7,7 @@ use Rattle.usb_device.specs.Through.{calls_of}
 use Rattle.usb_device.specs.representation.Link1.{InStep}
 use Rattle.usb_device.specs.representation.Layered.{endpoint_set, with_state, to_tell}
 use Rattle.usb_device.proofs.Pausing.{unsent_in, paused_in}
-use Rattle.usb_device.proofs.Layering.{states_in_step}
+use Rattle.usb_device.proofs.Layering.{states_in_step, bides_then, keeps_bides}
 use Rattle.usb_device.proofs.device.DeviceEndpoints.in_packet.Goals as goal
 
 pub returns-clause-refines : goal.returns-clause-refines
@@ -56,6 +56,10 @@ returns-clause-kept g c = λ from k.
             y.2,
             λ u. unsent_in lent all answer change (g.B.Buffers.bus c.args.self.now.buffers) (g.B.Buffers.bus c.follow.new.buffers) b next.answered same
                 (λ n. ap g.B.Buffers.bus (c.follow.ensures.same n)) c.follow.ensures.opened c.answered.ensures.reported (y.3 u),
+            elim y.4 [
+              | inl r ↦ inl r
+              | inr k ↦ inr (bides_then _ _ b k (bides_then _ (g.B.Buffers.bus c.follow.new.buffers) b c.follow.ensures.bides (keeps_bides _ b c.answered.ensures.reported)))
+            ],
           )),
       c.answered.ensures.size ∙ (c.follow.ensures.size ∙ k.2),
     )

@@ -1,5 +1,6 @@
 use Rattle.std.proofs.Common.{◌∷◌, ◌++◌, ap, ◌∙◌}
 use Rattle.usb_device.specs.Events.{OutCame}
+use Rattle.usb_device.proofs.Layering.{stays_bides}
 use Rattle.usb_device.proofs.Pausing.{unsent_out}
 use Rattle.usb_device.proofs.device.DeviceEndpoints.out.Goals as goal
 
@@ -12,6 +13,7 @@ returns-clause-kept g c = λ from k.
         e.met lent (y.0 ++ past) y.1,
         y.2,
         λ u. unsent_out lent c.args.packet.now c.take.result (y.0 ++ past) (g.B.Buffers.bus c.args.self.now.buffers) (g.B.Buffers.bus c.take.new.self.buffers) (ap g.B.Buffers.bus e.buffers) (y.3 u),
+        stays_bides _ _ _ _ (ap g.B.Buffers.bus e.buffers) y.4,
       )),
       e.size ∙ k.2,
     )

@@ -26,6 +26,7 @@ returns-clause-kept g c = λ from k.
             (e.refines lent all y.1.0, e.session lent all y.1.0 y.1.1, c.setup-2.ensures.linked b (calls_of all) y.1.2, y.1.3, c.setup-2.ensures.waits ∙ y.1.4),
             y.2,
             λ u. unsent_setup lent c.args.packet all b,
+            y.4,
           )),
       c.setup-2.ensures.size ∙ k.2,
     )

@@ -2,7 +2,7 @@ use Rattle.std.proofs.Common.{false, refl, sym, subst, inl, inr}
 use Rattle.usb_device.specs.contracts.report_buffers.ReportBuffers.{the_view}
 use Rattle.usb_device.specs.representation.Link1.{ReportState, Link1}
 use Rattle.usb_device.proofs.Reporting.{agreed_link}
-use Rattle.usb_device.proofs.Layering.{agreed_in_step, agreed_known}
+use Rattle.usb_device.proofs.Layering.{agreed_in_step, agreed_known, agreed_bides}
 use Rattle.usb_device.proofs.report_buffers.ReportBuffers.agree.Goals as goal
 
 pub returns-then-not-self-clause-linked : goal.returns-then-not-self-clause-linked
@@ -29,3 +29,9 @@ returns-then-not-self-clause-known g c = let i = c.host_began.ensures in agreed_
 
 pub returns-else-not-self-clause-known : goal.returns-else-not-self-clause-known
 returns-else-not-self-clause-known g c = let i = c.host_began.ensures in agreed_known i.0 _ i.1 _ i.2 i.3
+
+pub returns-then-not-self-clause-bides : goal.returns-then-not-self-clause-bides
+returns-then-not-self-clause-bides g c = let i = c.host_began.ensures in agreed_bides i.0 _ i.1 _ i.2 i.3
+
+pub returns-else-not-self-clause-bides : goal.returns-else-not-self-clause-bides
+returns-else-not-self-clause-bides g c = let i = c.host_began.ensures in agreed_bides i.0 _ i.1 _ i.2 i.3

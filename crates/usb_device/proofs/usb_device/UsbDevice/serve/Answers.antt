@@ -1,4 +1,4 @@
-use Rattle.std.proofs.Common.{ℕ, ◌==◌, [], ◌++◌, refl, sym, ap, subst, ◌∙◌}
+use Rattle.std.proofs.Common.{◌≡◌, ℕ, ◌==◌, true, false, [], ◌++◌, inl, inr, refl, sym, ap, subst, ◌∙◌}
 use Rattle.usb_device.specs.Bus1.{room_of, no_polls}
 use Rattle.usb_device.specs.Through.{calls_of}
 use Rattle.usb_device.specs.Transfers.{TransferState, NothingWithheld0, is_done}
@@ -6,7 +6,7 @@ use Rattle.usb_device.specs.declared.answer.Endpoint1.{Endpoint1}
 use Rattle.usb_device.specs.representation.Link.{Link}
 use Rattle.usb_device.specs.representation.Link1.{NothingWithheld, may_send}
 use Rattle.usb_device.specs.representation.Layered.{is_ready}
-use Rattle.usb_device.proofs.Layering.{polled_once, marks_known}
+use Rattle.usb_device.proofs.Layering.{polled_once, marks_known, bides_same, bides_then, looked_marks, looks_then}
 use Rattle.usb_device.proofs.Stating.{standing}
 use Rattle.usb_device.specs.Steps.{LayerState}
 use Rattle.usb_device.proofs.Linked.{goes}
@@ -14,6 +14,7 @@ use Rattle.usb_device.proofs.Resting.{rest_goes}
 use Rattle.usb_device.specs.representation.Link.{LooksAs}
 use Rattle.usb_device.specs.Pauses.{seen_if}
 use Rattle.usb_device.proofs.Addressing.{addressed}
+use Rattle.usb_device.proofs.Answering.{hears_end}
 use Rattle.usb_device.proofs.Looking.{grows_goes, looks_as}
 use Rattle.usb_device.proofs.Handing.{may_by}
 use Rattle.usb_device.proofs.Pausing.{polls_renewed, seen_renewed, seen_calls}
@@ -46,27 +47,28 @@ returns-clause-runs g c = λ calls lent past h.
       addressed (is_done c.settle.new.self.control) c.serve_reports.new.self.layer.due old bus calls a.0 (g.C.Controller.address_of c.args.controller.now) (g.C.Controller.address_of c.serve.new.controller) (g.C.Controller.address_of c.tell.new.controller) c.tell.ensures.reported a.5,
       a.4,
       looks_as c.settle.new.self.control (g.C.Controller.bus c.args.controller.now) old bus calls a.0 (subst A (sym c.settle.ensures.same) a.6) (grows_goes tell.0 old bus tell.1) linked rests,
+      hears_end c.settle.new.self.control bus a.0 linked rests,
     )
 
 pub returns-clause-kept : goal.returns-clause-kept
 returns-clause-kept g c = λ from k.
-    let served = (c.serve.ensures.kept c.args.self.now.device (λ base x. x, λ lent past h. ([], h, tt, λ u. u), refl)).0 from k in
+    let served = (c.serve.ensures.kept c.args.self.now.device (λ base x. x, λ lent past h. ([], h, tt, λ u. u, inr (bides_same _ _ refl)), refl)).0 from k in
     let settled = subst (λ x. g.E.Endpoints.keeps from x) (sym c.settle.ensures.behind) served in
     c.serve_reports.ensures.kept from settled
 
 pub returns-clause-size : goal.returns-clause-size
 returns-clause-size g c =
-    let served = (c.serve.ensures.kept c.args.self.now.device (λ base x. x, λ lent past h. ([], h, tt, λ u. u), refl)).2 in
+    let served = (c.serve.ensures.kept c.args.self.now.device (λ base x. x, λ lent past h. ([], h, tt, λ u. u, inr (bides_same _ _ refl)), refl)).2 in
     c.serve_reports.ensures.size ∙ (c.settle.ensures.size ∙ served)
 
 pub returns-clause-goes_on : goal.returns-clause-goes_on
 returns-clause-goes_on g c = λ lent past h.
-    let y = (c.serve.ensures.kept c.args.self.now.device (λ base x. x, λ lent past h. ([], h, tt, λ u. u), refl)).1 lent past h in
+    let y = (c.serve.ensures.kept c.args.self.now.device (λ base x. x, λ lent past h. ([], h, tt, λ u. u, inr (bides_same _ _ refl)), refl)).1 lent past h in
     let done = is_done c.settle.new.self.control in
     let seen = seen_if done (y.0 ++ past) in
     let settled = c.settle.ensures.refines lent (y.0 ++ past) y.1 in
     let a = c.serve_reports.ensures.asked lent seen settled in
-    let marks = c.serve_reports.ensures.marks lent seen settled in
+    let looks = c.serve_reports.ensures.looks lent seen settled in
     let d = c.settle.new.self.device in
     let b = g.B.Buffers.bus c.serve_reports.new.self.buffers in (
       y.0,
@@ -77,7 +79,11 @@ returns-clause-goes_on g c = λ lent past h.
       λ e z r. (let ready = sym c.serve_reports.ensures.same ∙ (ap (λ (s : LayerState). s.endpoint) a.1.0.state ∙ ((standing lent (a.0 ++ seen) a.1.0.answered).endpoint ∙ e)) in
           let left = sym c.serve_reports.ensures.waits ∙ (a.1.4 ∙ z) in
           a.3 (may_by (is_ready d.layer.endpoint) d.reports.left (ap is_ready ready) (ap (λ x. x == 0) left)) r),
+      λ n r. elim y.4 [
+        | inl e ↦ absurd (let x : true ≡ false = sym e ∙ n in cc)
+        | inr k ↦ looks_then (g.B.Buffers.bus c.args.self.now.device.buffers) (g.B.Buffers.bus d.buffers) b (bides_then _ _ (g.B.Buffers.bus d.buffers) k c.settle.ensures.bides) looks r
+      ],
       λ u e q r. (let set = sym (seen_renewed done lent (y.0 ++ past)) ∙ (sym (polls_renewed lent a.0 seen a.2) ∙ q) in
           let renewed = ap (λ (s : LayerState). s.renewed) y.1.0.state ∙ ((standing lent (y.0 ++ past) y.1.0.answered).renewed ∙ set) in
-          marks_known (g.B.Buffers.bus d.buffers) b marks (c.settle.ensures.agreed e renewed (y.3 u set)) r),
+          marks_known (g.B.Buffers.bus d.buffers) b (looked_marks (g.B.Buffers.bus d.buffers) b looks) (c.settle.ensures.agreed e renewed (y.3 u set)) r),
     )
