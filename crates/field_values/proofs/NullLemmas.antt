@@ -3,7 +3,7 @@ use Rattle.std.proofs.Common.{◌≡◌, ℕ, ◌^◌, Bool, true, false, arith,
 use Rattle.std.specs.Prelude.{◌⊎◌, ℤ, pos, ◌+ℤ◌, ◌-ℤ◌, ◌<ℤ◌, ◌≤ℤ◌, int_lt, not, ◌&&◌, if◌then◌else◌}
 use Rattle.std.proofs.lemmas.Int.{ints}
 use Rattle.std.proofs.lemmas.Nat.{pow_pos}
-use Rattle.std.proofs.lemmas.Bool.{cases_Bool}
+use Rattle.std.proofs.lemmas.Bool.{cases_Bool, not-true, and_parts}
 use Rattle.descriptor_parse.specs.declared.field.Field.{Field}
 use Rattle.field_values.specs.Held.{is_held, is_within}
 use Rattle.field_values.specs.Nulls.{is_null, null_of}
@@ -24,22 +24,13 @@ is_below a b l = grind (arith, ints)
 is_not_below : (a b : ℤ) → b ≤ℤ a → int_lt a b ≡ false
 is_not_below a b l = grind (arith, ints)
 
-both : (a b : Bool) → (a && b) ≡ true → (a ≡ true) × (b ≡ true)
-both true true e = (refl, refl)
-both true false e = absurd (cc)
-both false b e = absurd (cc)
-
-undone : (a : Bool) → not a ≡ true → a ≡ false
-undone true e = absurd (cc)
-undone false e = refl
-
 -- ---- the bits hold what is between two values that they hold
 
 unsigned_between : (n : ℤ) (low high v : ℤ) → (not (int_lt low (pos 0)) && int_lt low n) ≡ true → (not (int_lt high (pos 0)) && int_lt high n) ≡ true
     → low ≤ℤ v → v ≤ℤ high → (not (int_lt v (pos 0)) && int_lt v n) ≡ true
 unsigned_between n low high v l h a b =
-    let p : pos 0 ≤ℤ low = not_below low (pos 0) (undone (int_lt low (pos 0)) (both (not (int_lt low (pos 0))) (int_lt low n) l).0) in
-    let q : high <ℤ n = below high n (both (not (int_lt high (pos 0))) (int_lt high n) h).1 in
+    let p : pos 0 ≤ℤ low = not_below low (pos 0) (not-true (int_lt low (pos 0)) (and_parts (not (int_lt low (pos 0))) (int_lt low n) l).0) in
+    let q : high <ℤ n = below high n (and_parts (not (int_lt high (pos 0))) (int_lt high n) h).1 in
     let x : int_lt v (pos 0) ≡ false = is_not_below v (pos 0) (omega (arith, ints)) in
     let y : int_lt v n ≡ true = is_below v n (omega (arith, ints)) in
     rw (x, y) refl
@@ -49,8 +40,8 @@ signed_between : (n : ℤ) (low high v : ℤ) → (not (int_lt (low +ℤ low) (p
     → low ≤ℤ v → v ≤ℤ high → (not (int_lt (v +ℤ v) (pos 0 -ℤ n)) && int_lt (v +ℤ v) n) ≡ true
 signed_between n low high v l h a b =
     let p : (pos 0 -ℤ n) ≤ℤ (low +ℤ low) =
-    not_below (low +ℤ low) (pos 0 -ℤ n) (undone (int_lt (low +ℤ low) (pos 0 -ℤ n)) (both (not (int_lt (low +ℤ low) (pos 0 -ℤ n))) (int_lt (low +ℤ low) n) l).0) in
-    let q : (high +ℤ high) <ℤ n = below (high +ℤ high) n (both (not (int_lt (high +ℤ high) (pos 0 -ℤ n))) (int_lt (high +ℤ high) n) h).1 in
+    not_below (low +ℤ low) (pos 0 -ℤ n) (not-true (int_lt (low +ℤ low) (pos 0 -ℤ n)) (and_parts (not (int_lt (low +ℤ low) (pos 0 -ℤ n))) (int_lt (low +ℤ low) n) l).0) in
+    let q : (high +ℤ high) <ℤ n = below (high +ℤ high) n (and_parts (not (int_lt (high +ℤ high) (pos 0 -ℤ n))) (int_lt (high +ℤ high) n) h).1 in
     let x : int_lt (v +ℤ v) (pos 0 -ℤ n) ≡ false = is_not_below (v +ℤ v) (pos 0 -ℤ n) (omega (arith, ints)) in
     let y : int_lt (v +ℤ v) n ≡ true = is_below (v +ℤ v) n (omega (arith, ints)) in
     rw (x, y) refl
@@ -116,7 +107,7 @@ above_is_outside f v l = elim (cases_Bool (int_lt v f.min)) [
 under_is_outside : (f : Field) (v : ℤ) → v <ℤ f.min → is_within f v ≡ false
 under_is_outside f v l = rw (is_below v f.min l) refl
 
-null_from : (within held : Bool) → within ≡ false → held ≡ true → (not within && held) ≡ true
+pub null_from : (within held : Bool) → within ≡ false → held ≡ true → (not within && held) ≡ true
 null_from within held a b = rw (a, b) refl
 
 -- a value that is held is within if it is no null
@@ -128,20 +119,20 @@ true≢false : {P : Type 0} (b : Bool) → b ≡ true → b ≡ false → P
 true≢false b x y = absurd (cc)
 
 is_within_true : (f : Field) (v : ℤ) → is_within f v ≡ true → (f.min ≤ℤ v) × (v ≤ℤ f.max)
-is_within_true f v e = let (a, b) = both (not (int_lt v f.min)) (not (int_lt f.max v)) e in
-    (not_below v f.min (undone (int_lt v f.min) a), not_below f.max v (undone (int_lt f.max v) b))
+is_within_true f v e = let (a, b) = and_parts (not (int_lt v f.min)) (not (int_lt f.max v)) e in
+    (not_below v f.min (not-true (int_lt v f.min) a), not_below f.max v (not-true (int_lt f.max v) b))
 
 pub never_null : (f : Field)
     → is_null f (pos 0) ≡ false → is_null f (f.max +ℤ pos 1) ≡ false → is_null f (f.min -ℤ pos 1) ≡ false → (v : ℤ) → is_null f v ≡ false
 never_null f a b c v = elim (cases_Bool (is_null f v)) [
   | inr other ↦ other
   | inl said ↦ (
-      let (out, held) = both (not (is_within f v)) (is_held f.min f.size v) said in
+      let (out, held) = and_parts (not (is_within f v)) (is_held f.min f.size v) said in
       let zero = zero_held f.min f.size in
       let above = f.max +ℤ pos 1 in
       let under = f.min -ℤ pos 1 in
       let (from, to) = is_within_true f (pos 0) (is_no_null (is_within f (pos 0)) (is_held f.min f.size (pos 0)) a zero) in
-      elim (is_outside f v (undone (is_within f v) out)) [
+      elim (is_outside f v (not-true (is_within f v) out)) [
         | inr high ↦ (let m = held_between f.min f.size (pos 0) v above zero held (omega (arith, ints)) (omega (arith, ints)) in
             true≢false (is_null f above) (null_from (is_within f above) (is_held f.min f.size above) (above_is_outside f above (omega (arith, ints))) m) b)
         | inl low ↦ (let m = held_between f.min f.size v (pos 0) under held zero (omega (arith, ints)) (omega (arith, ints)) in
@@ -172,5 +163,5 @@ null_is_null f v e = one_of (is_null f (pos 0)) (is_null f (f.max +ℤ pos 1)) (
 
 pub read_as_null : (f : Field) (v : ℤ) → f.array ≡ false → null_of f ≡ Some v → where_is f true v ≡ Null
 read_as_null f v a e =
-    let (out, held) = both (not (is_within f v)) (is_held f.min f.size v) (null_is_null f v e) in
-    outside_null (is_within f v) f.array (undone (is_within f v) out) a
+    let (out, held) = and_parts (not (is_within f v)) (is_held f.min f.size v) (null_is_null f v e) in
+    outside_null (is_within f v) f.array (not-true (is_within f v) out) a

@@ -79,7 +79,7 @@ same_list (x ∷ xs) (y ∷ ys) l h =
     let rest : xs ≡ ys = same_list xs ys (omega arith) (λ i. h (suc i)) in
     rw (first, rest) refl
 
-same_bytes : (old now : List ℕ) → ((i : ℕ) → get_or old i 0 < 256) → ((i : ℕ) → get_or now i 0 < 256) → length now ≡ length old
+pub same_bytes : (old now : List ℕ) → ((i : ℕ) → slice_index old i < 256) → ((i : ℕ) → slice_index now i < 256) → length now ≡ length old
     → ((bit : ℕ) → report_bit now bit ≡ report_bit old bit) → now ≡ old
 same_bytes old now a b l h = same_list now old l (λ k.
     let x : get_or now k 0 < 2 ^ 8 = b k in
@@ -89,17 +89,17 @@ same_bytes old now a b l h = same_list now old l (λ k.
     let r : (8 * k + i) % 8 ≡ i = omega arith in
     rw (d, r) at (h (8 * k + i))))
 
-pub written_back : (field : Field) (old now : List ℕ) (place : ℕ)
-    → ((i : ℕ) → slice_index old i < 256) → ((i : ℕ) → slice_index now i < 256) → length now ≡ length old
+-- where a place holds what it held, and the other bits stay, each bit does
+pub all_same : (field : Field) (old now : List ℕ) (place : ℕ)
     → ((bit : ℕ) → IsOutside (place_bit field place) field.size bit → report_bit now bit ≡ report_bit old bit)
-    → value_at field now place ≡ value_at field old place → now ≡ old
-written_back field old now place a b l h e =
+    → value_at field now place ≡ value_at field old place → (bit : ℕ) → report_bit now bit ≡ report_bit old bit
+all_same field old now place h e bit =
     let from = place_bit field place in
     let m = number_at now from field.size in
     let n = number_at old from field.size in
     let same : m ≡ n = one_value (int_lt field.min (pos 0)) (nat_lt (2 * m) (2 ^ field.size)) (nat_lt (2 * n) (2 ^ field.size)) m n (2 ^ field.size)
     (number-lt now field.size from) (number-lt old field.size from) e in
-    same_bytes old now a b l (λ bit. elim (cases_lt bit from) [
+    elim (cases_lt bit from) [
       | inl low ↦ h bit (inl low)
       | inr above ↦ elim (cases_lt bit (from + field.size)) [
         | inr high ↦ h bit (inr high)
@@ -107,4 +107,10 @@ written_back field old now place a b l h e =
             let k : bit - from < field.size = omega arith in
             rw i at (sym (number-bit now field.size from (bit - from) k) ∙ ap (λ x. bit_at x (bit - from)) same ∙ number-bit old field.size from (bit - from) k))
       ]
-    ])
+    ]
+
+pub written_back : (field : Field) (old now : List ℕ) (place : ℕ)
+    → ((i : ℕ) → slice_index old i < 256) → ((i : ℕ) → slice_index now i < 256) → length now ≡ length old
+    → ((bit : ℕ) → IsOutside (place_bit field place) field.size bit → report_bit now bit ≡ report_bit old bit)
+    → value_at field now place ≡ value_at field old place → now ≡ old
+written_back field old now place a b l h e = same_bytes old now a b l (all_same field old now place h e)
