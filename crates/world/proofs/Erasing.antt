@@ -1,4 +1,5 @@
 -- A page is erased at most once more than headers are committed, cuts catch a command and commands fail.
+use Rattle.std.proofs.lemmas.Grind.{common_steps}
 use Rattle.std.proofs.Common.{◌≡◌, ◌∙◌, ℕ, zero, suc, ◌+◌, ◌≤◌, ◌==◌, ◌&&◌, Bool, true, false, if◌then◌else◌, Option, Some, None, List, [], ◌∷◌, ◌++◌, refl, sym, ap, subst, arith}
 use Rattle.std.specs.Prelude.{slice_get}
 use Rattle.std.proofs.lemmas.Bool.{ne_eqb}
@@ -29,8 +30,6 @@ use Rattle.keyboard.proofs.Bounding.{steps_since-same, steps_since-more}
 use Rattle.keyboard.proofs.Effects as keyboard
 use Rattle.keyboard.proofs.Sessions.{orderly, working_after, after_stays}
 use Rattle.world.specs.declared.event.Event.{Event}
-use Rattle.world.specs.declared.event.Event.TheVariants.{Scan, Setup, OutPacket, InPacket, Poll, Work, WorkFault, Cut, CutInWork, Entry, SlotAt, Leds}
-use Rattle.world.specs.declared.event.Event.TheVariants as event
 use Rattle.world.specs.declared.event.Answer.{Answer}
 use Rattle.world.specs.Kinds.{Step, Kind, starts, calls, looks, kind_of, kind}
 use Rattle.world.specs.History.{Session, session_with, session, host_calls, flash_after, image_after, EachStep}
@@ -135,19 +134,7 @@ OnlyWorks found (calls (Worked work image)) = Unit {0}
 OnlyWorks found _ = found ≡ None
 
 only_works : (event : Event) (answer : Answer) (flash : SimValue) (image : List ℕ) → OnlyWorks (found_by event flash) (kind_of event answer image)
-only_works (Scan scan) answer flash image = refl
-only_works (Setup bytes) answer flash image = refl
-only_works (OutPacket packet) answer flash image = refl
-only_works InPacket answer flash image = refl
-only_works Poll answer flash image = refl
-only_works Work answer flash image = tt
-only_works (WorkFault mask) answer flash image = tt
-only_works Cut answer flash image = tt
-only_works (CutInWork mask) answer flash image = tt
-only_works event.BusReset answer flash image = refl
-only_works (Entry layer key) answer flash image = refl
-only_works (SlotAt page slot) answer flash image = refl
-only_works Leds answer flash image = refl
+only_works event answer flash image = grind (arith, common_steps)
 
 module _ (defaults : DefaultCodes) where
   by_room : (room : Bool) (image : List ℕ) (command : Command) (k : ℕ) (operation : Operation) → has_room image ≡ room → slice_get (operations_of defaults image command) (suc k) ≡ Some operation → IsProgram operation

@@ -1,5 +1,6 @@
 -- What the host reads is what the keymap gives for the debounced keys.
-use Rattle.std.proofs.Common.{◌≡◌, ℕ, Bool, not, Option, Some, None, List, [], ◌∷◌, refl, sym, ◌∙◌, ap, subst}
+use Rattle.std.proofs.lemmas.Grind.{common_steps}
+use Rattle.std.proofs.Common.{◌≡◌, ℕ, Bool, not, Option, Some, None, List, [], ◌∷◌, refl, sym, ◌∙◌, ap, subst, arith}
 use Rattle.flash_model.specs.Image.{slot_at}
 use Rattle.flash_model.specs.Sim.{SimValue}
 use Rattle.control_ep.specs.declared.answer.EpAnswer.{EpAnswer}
@@ -19,9 +20,8 @@ use Rattle.world.proofs.Sending.{sent_is_wanted}
 use Rattle.world.proofs.Fetching.{fetched_is_served, gathered_is_served}
 use Rattle.world.proofs.Understood.{read_is_wanted}
 use Rattle.world.specs.declared.event.Event.{Event}
-use Rattle.world.specs.declared.event.Event.TheVariants.{Scan, Setup, OutPacket, InPacket, Poll, Work, WorkFault, Cut, CutInWork, BusReset, Entry, SlotAt, Leds}
 use Rattle.world.specs.declared.event.Answer.{Answer}
-use Rattle.world.specs.declared.event.Answer.TheVariants.{Done, Ack, Nak, Sent, Worked, Restarted, SlotIs, NoSlot}
+use Rattle.world.specs.declared.event.Answer.TheVariants.{Nak, Sent, SlotIs, NoSlot}
 use Rattle.world.specs.Kinds.{Step, Kind, starts, calls, looks, kind, as_answer, bytes_reported}
 use Rattle.world.specs.History.{Session, session_with, session, heard_in, host_calls, flash_after, EachStep}
 use Rattle.world.specs.Conforming.{SlotAnswer, Answered, IsAnswered, IsSent}
@@ -109,19 +109,7 @@ module _ (defaults : DefaultCodes) where
   reads_by : (now : Session) (host : List HostCall) (old : SimValue) (event : Event) (answer : Answer) (refused : Bool) (new : SimValue) (bytes : List ℕ) (reading : Reading)
       → EachCall (keyboard.IsAnswered defaults) now.first now.past → Hearing now host → Answered defaults now host old event answer refused new
       → answer ≡ Sent (record { items = bytes }) reading → IsReadAs defaults now.first now.past host bytes reading
-  reads_by now host old (Scan scan) answer refused new bytes reading l h a e = clash answer Done bytes reading a.0 refl e
-  reads_by now host old (Setup setup) answer refused new bytes reading l h a e = clash answer Ack bytes reading a.0 refl e
-  reads_by now host old (OutPacket packet) answer refused new bytes reading l h (by_ep, a, conforming, u) e = clash answer (as_answer by_ep) bytes reading a (of_endpoint by_ep) e
-  reads_by now host old InPacket answer refused new bytes reading l h (by_ep, a, conforming, f, m) e = clash answer (as_answer by_ep) bytes reading a (of_endpoint by_ep) e
-  reads_by now host old Poll answer refused new bytes reading l h (report, p, f, s) e = read_of_sent now host report answer refused bytes reading l h p s e
-  reads_by now host old Work answer refused new bytes reading l h (work, a, w, r) e = clash answer (Worked work) bytes reading a refl e
-  reads_by now host old (WorkFault mask) answer refused new bytes reading l h (work, a, w, r) e = clash answer (Worked work) bytes reading a refl e
-  reads_by now host old Cut answer refused new bytes reading l h a e = clash answer Restarted bytes reading a.0 refl e
-  reads_by now host old (CutInWork mask) answer refused new bytes reading l h (work, a, w, r) e = clash answer Restarted bytes reading a refl e
-  reads_by now host old BusReset answer refused new bytes reading l h a e = clash answer Done bytes reading a.0 refl e
-  reads_by now host old (Entry layer key) answer refused new bytes reading l h a e = clash answer _ bytes reading a.0 refl e
-  reads_by now host old (SlotAt page slot) answer refused new bytes reading l h (a, u) e = of_slot answer bytes reading old.image page slot a e
-  reads_by now host old Leds answer refused new bytes reading l h a e = clash answer _ bytes reading a.0 refl e
+  reads_by now host old event answer refused new bytes reading l h a e = grind (arith, common_steps, clash, of_endpoint, read_of_sent, of_slot)
 
   pub reads_wanted : (start : SimValue) (past : List Step) → EachStep (IsAnswered defaults) start past → EachStep (ReadsWanted defaults) start past
   reads_wanted start [] h = tt

@@ -1,14 +1,12 @@
 -- A keyboard on blank pages stores its first command while it scans and is polled.
-use Rattle.std.proofs.Common.{◌≡◌, ◌≢◌, ℕ, zero, suc, ◌<◌, ◌*◌, ◌-◌, ◌^◌, ◌/◌, ◌%◌, ◌==◌, true, false, if◌then◌else◌, nat_lt, Ok, None, Some, Option, List, [], ◌∷◌, ◌++◌, length, refl, ap, sym, ◌∙◌, subst, arith}
-use Rattle.std.specs.Prelude.{replicate, unwrap_or}
+use Rattle.std.proofs.Common.{◌≡◌, ◌≢◌, ℕ, zero, suc, ◌<◌, ◌*◌, ◌-◌, ◌^◌, ◌/◌, ◌%◌, ◌==◌, true, false, if◌then◌else◌, nat_lt, None, Some, Option, List, [], ◌∷◌, ◌++◌, length, refl, ap, sym, ◌∙◌, subst, arith}
+use Rattle.std.specs.Prelude.{replicate}
 use Rattle.flash_model.proofs.Places.{page_count-blank, slot_at-blank}
-use Rattle.flash_model.specs.Image.{slot_at, page_count}
 use Rattle.layers.proofs.Copying.{copies_below-zero, copies_below-same}
 use Rattle.layers.proofs.LastWriter.{changed-one}
 use Rattle.layers.specs.Codes.{keys}
 use Rattle.layers.specs.Copies.{places, copies_below}
 use Rattle.layers.specs.Commands.{word_of}
-use Rattle.layers.specs.Entries.{ChangesSome, changed, written}
 use Rattle.layers.specs.declared.command.Command.{Command}
 use Rattle.layers.specs.declared.command.Command.TheVariants.{SetKey}
 use Rattle.layers.specs.Standard.{standard}
@@ -20,7 +18,7 @@ use Rattle.page_turnover.specs.Blank.{is_blank}
 use Rattle.page_turnover.specs.Turn.{target_page}
 use Rattle.page_turnover.specs.declared.operation.Operation.{Operation}
 use Rattle.keymap_store.specs.Next.{all_copies}
-use Rattle.keymap_store.specs.Operations.{operations_of, has_room, has_room_on, record_on, erase_if_used, programs_from, header_and_record, turn_and_record}
+use Rattle.keymap_store.specs.Operations.{operations_of, has_room, has_room_on, erase_if_used, programs_from, header_and_record}
 use Rattle.keyboard.proofs.Changing.{changes-some}
 use Rattle.keyboard.proofs.Progressing.{acknowledged}
 use Rattle.keyboard.proofs.Serving.{answered_by, status_by}

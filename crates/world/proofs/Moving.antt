@@ -1,5 +1,6 @@
 -- From poll to poll of a session the moments of the reports go on.
-use Rattle.std.proofs.Common.{◌≡◌, ℕ, Bool, Option, Some, None, List, [], ◌∷◌, ◌++◌, refl, sym, ◌∙◌, ap, subst, append_assoc}
+use Rattle.std.proofs.lemmas.Grind.{common_steps}
+use Rattle.std.proofs.Common.{◌≡◌, ℕ, Bool, Option, Some, None, List, [], ◌∷◌, ◌++◌, refl, sym, ◌∙◌, ap, subst, append_assoc, arith}
 use Rattle.flash_model.specs.Sim.{SimValue}
 use Rattle.host.specs.Calls.{HostCall}
 use Rattle.host.specs.declared.reading.Reading.{Reading}
@@ -12,10 +13,9 @@ use Rattle.world.specs.Sent.{IsWantedAt}
 use Rattle.world.proofs.Sending.{sent_is_wanted}
 use Rattle.world.proofs.Following.{goes_on, not_again}
 use Rattle.world.specs.declared.event.Event.{Event}
-use Rattle.world.specs.declared.event.Event.TheVariants.{Scan, Setup, OutPacket, InPacket, Poll, Work, WorkFault, Cut, CutInWork, BusReset, Entry, SlotAt, Leds}
 use Rattle.world.specs.declared.event.Answer.{Answer}
-use Rattle.world.specs.declared.event.Answer.TheVariants.{Done, Ack, Nak, Sent, Worked, Restarted}
-use Rattle.world.specs.Kinds.{Step, as_answer, bytes_reported}
+use Rattle.world.specs.declared.event.Answer.TheVariants.{Nak, Sent}
+use Rattle.world.specs.Kinds.{Step, bytes_reported}
 use Rattle.world.specs.History.{Session, session, host_calls, flash_after, EachStep}
 use Rattle.world.specs.Conforming.{Answered, IsAnswered, IsSent}
 use Rattle.world.specs.Moments.{report_of, SendsOnward, MovesOn}
@@ -44,19 +44,7 @@ module _ (defaults : DefaultCodes) where
 
   onward_by : (now : Session) (host : List HostCall) (old : SimValue) (event : Event) (answer : Answer) (refused : Bool) (new : SimValue) (bytes : List ℕ) (reading : Reading)
       → Answered defaults now host old event answer refused new → answer ≡ Sent (record { items = bytes }) reading → SendsOnward defaults now.first now.past bytes
-  onward_by now host old (Scan scan) answer refused new bytes reading a e = clash answer Done bytes reading a.0 refl e
-  onward_by now host old (Setup setup) answer refused new bytes reading a e = clash answer Ack bytes reading a.0 refl e
-  onward_by now host old (OutPacket packet) answer refused new bytes reading (by_ep, a, conforming, u) e = clash answer (as_answer by_ep) bytes reading a (of_endpoint by_ep) e
-  onward_by now host old InPacket answer refused new bytes reading (by_ep, a, conforming, f, m) e = clash answer (as_answer by_ep) bytes reading a (of_endpoint by_ep) e
-  onward_by now host old Poll answer refused new bytes reading (report, p, f, s) e = sent_onward now host report answer refused bytes reading p s e
-  onward_by now host old Work answer refused new bytes reading (work, a, w, r) e = clash answer (Worked work) bytes reading a refl e
-  onward_by now host old (WorkFault mask) answer refused new bytes reading (work, a, w, r) e = clash answer (Worked work) bytes reading a refl e
-  onward_by now host old Cut answer refused new bytes reading a e = clash answer Restarted bytes reading a.0 refl e
-  onward_by now host old (CutInWork mask) answer refused new bytes reading (work, a, w, r) e = clash answer Restarted bytes reading a refl e
-  onward_by now host old BusReset answer refused new bytes reading a e = clash answer Done bytes reading a.0 refl e
-  onward_by now host old (Entry layer key) answer refused new bytes reading a e = clash answer _ bytes reading a.0 refl e
-  onward_by now host old (SlotAt page slot) answer refused new bytes reading (a, u) e = of_slot answer bytes reading old.image page slot a e
-  onward_by now host old Leds answer refused new bytes reading a e = clash answer _ bytes reading a.0 refl e
+  onward_by now host old event answer refused new bytes reading a e = grind (arith, common_steps, clash, of_endpoint, sent_onward, of_slot)
 
   pub moves_on : (start : SimValue) (past : List Step) → EachStep (IsAnswered defaults) start past → EachStep (MovesOn defaults) start past
   moves_on start [] h = tt

@@ -1,4 +1,5 @@
 -- The operations of a command come in their order, and a header comes by its own operation alone.
+use Rattle.std.proofs.lemmas.Grind.{common_steps}
 use Rattle.std.proofs.Common.{◌≡◌, ◌∙◌, ℕ, Bool, Option, None, Some, List, [], ◌∷◌, refl, sym, ap, subst, arith}
 use Rattle.flash_model.specs.Image.{slot_at}
 use Rattle.flash_model.specs.Sim.{SimValue}
@@ -79,19 +80,7 @@ module _ (defaults : DefaultCodes) where
 
   in_order : (now : Session) (heard : List HostCall) (before : SimValue) (event : Event) (answer : Answer) (refused : Bool) (new : SimValue) (command : Command) (old : SimValue) → Answered defaults now heard before event answer refused new
       → working defaults now.first now.past ≡ Some command → found_by event before ≡ Some old → IsNextOperation defaults now command old event answer new
-  in_order now heard before (Scan scan) answer refused new command old a w e = no_step _ old e
-  in_order now heard before (Setup bytes) answer refused new command old a w e = no_step _ old e
-  in_order now heard before (OutPacket packet) answer refused new command old a w e = no_step _ old e
-  in_order now heard before InPacket answer refused new command old a w e = no_step _ old e
-  in_order now heard before Poll answer refused new command old a w e = no_step _ old e
-  in_order now heard before Work answer refused new command old (work, is, on, r) w e = worked now command before before old work Work answer new w (λ reported. is) e on
-  in_order now heard before (WorkFault mask) answer refused new command old (work, is, on, r) w e = worked now command before _ old work (WorkFault mask) answer new w (λ reported. is) e on
-  in_order now heard before Cut answer refused new command old a w e = no_step _ old e
-  in_order now heard before (CutInWork mask) answer refused new command old (work, is, on, r) w e = worked now command before _ old work (CutInWork mask) answer new w (λ reported. absurd reported) e on
-  in_order now heard before BusReset answer refused new command old a w e = no_step _ old e
-  in_order now heard before (Entry layer key) answer refused new command old a w e = no_step _ old e
-  in_order now heard before (SlotAt page slot) answer refused new command old a w e = no_step _ old e
-  in_order now heard before Leds answer refused new command old a w e = no_step _ old e
+  in_order now heard before event answer refused new command old a w e = grind (arith, common_steps, no_step, worked)
 
   pub works_in_order : (start : SimValue) (history : List Step) → EachStep (IsAnswered defaults) start history → EachStep (WorksInOrder defaults) start history
   works_in_order start [] h = tt

@@ -1,5 +1,6 @@
 -- Each restart is legal, and each look shows the settled commands.
-use Rattle.std.proofs.Common.{◌≡◌, ℕ, ◌<◌, Bool, Option, Some, None, List, [], ◌∷◌, sym, ◌∙◌, ap, subst}
+use Rattle.std.proofs.lemmas.Grind.{common_steps}
+use Rattle.std.proofs.Common.{◌≡◌, ℕ, ◌<◌, Bool, Option, Some, None, List, [], ◌∷◌, sym, ◌∙◌, ap, subst, arith}
 use Rattle.flash_model.specs.Sim.{SimValue}
 use Rattle.layers.specs.Codes.{layers, keys, DefaultCodes}
 use Rattle.layers.specs.Entries.{changed}
@@ -7,14 +8,14 @@ use Rattle.layers.specs.declared.command.Command.{Command}
 use Rattle.keymap_store.specs.declared.store.Work.{Work as WorkAnswer}
 use Rattle.host.specs.Calls.{HostCall}
 use Rattle.keyboard.specs.Calls.{Call, Worked as KeyboardWorked, keymap, EachCall}
-use Rattle.keyboard.specs.Commands.{accepted, working, settled_of}
+use Rattle.keyboard.specs.Commands.{accepted, settled_of}
 use Rattle.keyboard.specs.Conforming.{WorkedOn, IsAnswered as IsCallAnswered}
 use Rattle.keyboard.specs.Restart.{RestartsLegally}
 use Rattle.keyboard.proofs.Restarting.{restarts_legally}
 use Rattle.keyboard.proofs.Sessions.{orderly}
 use Rattle.keyboard.proofs.Working.{cuts_legally}
 use Rattle.world.specs.declared.event.Event.{Event}
-use Rattle.world.specs.declared.event.Event.TheVariants.{Scan, Setup, OutPacket, InPacket, Poll, Work, WorkFault, Cut, CutInWork, BusReset, Entry, SlotAt, Leds}
+use Rattle.world.specs.declared.event.Event.TheVariants.{Entry}
 use Rattle.world.specs.declared.event.Answer.{Answer}
 use Rattle.world.specs.declared.event.Answer.TheVariants.{EntryIs}
 use Rattle.world.specs.Kinds.{Step, starts, kind_of}
@@ -32,21 +33,7 @@ module _ (defaults : DefaultCodes) where
 
   legal_by : (now : Session) (heard : List HostCall) (old : SimValue) (event : Event) (answer : Answer) (refused : Bool) (new : SimValue) → Here defaults now old
       → Answered defaults now heard old event answer refused new → kind_of event answer new.image ≡ starts → RestartsLegally defaults now.first now.past new.image
-  legal_by now heard old (Scan scan) answer refused new h a e = cc
-  legal_by now heard old (Setup bytes) answer refused new h a e = cc
-  legal_by now heard old (OutPacket packet) answer refused new h a e = cc
-  legal_by now heard old InPacket answer refused new h a e = cc
-  legal_by now heard old Poll answer refused new h a e = cc
-  legal_by now heard old Work answer refused new h a e = cc
-  legal_by now heard old (WorkFault mask) answer refused new h a e = cc
-  legal_by now heard old Cut answer refused new h a e =
-      subst (λ (x : List ℕ). RestartsLegally defaults now.first now.past x) (h.image ∙ sym (ap (λ (f : SimValue). f.image) a.1.0)) (restarts_legally defaults now.first now.past h.conforming)
-  legal_by now heard old (CutInWork mask) answer refused new h (work, e, w, r) s =
-      by_step now.first now.past (working defaults now.first now.past) work new.image h.conforming w.conforming w.conforming
-  legal_by now heard old BusReset answer refused new h a e = cc
-  legal_by now heard old (Entry layer key) answer refused new h a e = cc
-  legal_by now heard old (SlotAt page slot) answer refused new h a e = cc
-  legal_by now heard old Leds answer refused new h a e = cc
+  legal_by now heard old event answer refused new h a e = grind (arith, common_steps, by_step, restarts_legally)
 
   pub starts_legally : (start : SimValue) (past : List Step) → EachStep (IsAnswered defaults) start past → EachStep (StartsLegally defaults) start past
   starts_legally start [] h = tt

@@ -2,12 +2,11 @@
 use Rattle.std.proofs.Common.{◌≡◌, ℕ, zero, suc, ◌<◌, ◌*◌, List, None, refl, sym, ◌∙◌, ap, arith}
 use Rattle.std.specs.Prelude.{replicate, unwrap_or}
 use Rattle.flash_model.proofs.Places.{page_count-blank, slot_at-blank}
-use Rattle.flash_model.specs.Image.{slot_at, page_count}
+use Rattle.flash_model.specs.Image.{slot_at}
 use Rattle.layers.specs.Codes.{DefaultCodes}
 use Rattle.layers.specs.Entries.{last_written, changed, commands_in, entry_in}
 use Rattle.layers.specs.Standard.{standard}
 use Rattle.records.proofs.SlotLemmas.{slot_of-blank}
-use Rattle.records.specs.Slots.{slot_of}
 use Rattle.page_turnover.proofs.Describing.{words_none_active}
 use Rattle.page_turnover.specs.Active.{newer, newest, active, format}
 use Rattle.page_turnover.specs.Header.{header_of}

@@ -1,5 +1,6 @@
 -- Slots 0 stay sound, and with one that is not nothing is operated.
-use Rattle.std.proofs.Common.{◌≡◌, Bool, Option, None, Some, List, [], ◌∷◌, refl, sym, ◌∙◌, subst}
+use Rattle.std.proofs.lemmas.Grind.{common_steps}
+use Rattle.std.proofs.Common.{◌≡◌, Bool, Option, None, Some, List, [], ◌∷◌, refl, sym, ◌∙◌, subst, arith}
 use Rattle.flash_model.specs.Sim.{SimValue}
 use Rattle.layers.specs.Codes.{DefaultCodes}
 use Rattle.layers.specs.declared.command.Command.{Command}
@@ -11,7 +12,6 @@ use Rattle.keyboard.specs.Calls.{image_after}
 use Rattle.keyboard.specs.Commands.{working}
 use Rattle.keyboard.specs.Conforming.{WorkedOn}
 use Rattle.world.specs.declared.event.Event.{Event}
-use Rattle.world.specs.declared.event.Event.TheVariants.{Scan, Setup, OutPacket, InPacket, Poll, Work, WorkFault, Cut, CutInWork, BusReset, Entry, SlotAt, Leds}
 use Rattle.world.specs.declared.event.Answer.{Answer}
 use Rattle.world.specs.Kinds.{Step}
 use Rattle.world.specs.History.{Session, session, host_calls, flash_after, EachStep}
@@ -49,19 +49,7 @@ module _ (defaults : DefaultCodes) where
 
   touches : (now : Session) (heard : List HostCall) (old : SimValue) (event : Event) (answer : Answer) (refused : Bool) (new : SimValue) → Here defaults now old
       → Answered defaults now heard old event answer refused new → Touches old new
-  touches now heard old (Scan scan) answer refused new h a = untouched a.1.0
-  touches now heard old (Setup bytes) answer refused new h a = untouched a.1.0
-  touches now heard old (OutPacket packet) answer refused new h (by_ep, e, l, u) = untouched u.0
-  touches now heard old InPacket answer refused new h (by_ep, e, l, f, m) = untouched f
-  touches now heard old Poll answer refused new h (report, l, f, s) = untouched f
-  touches now heard old Work answer refused new h (work, e, w, r) = worked_in now old _ work new h w
-  touches now heard old (WorkFault mask) answer refused new h (work, e, w, r) = worked_in now old _ work new h w
-  touches now heard old Cut answer refused new h a = untouched a.1.0
-  touches now heard old (CutInWork mask) answer refused new h (work, e, w, r) = worked_in now old _ work new h w
-  touches now heard old BusReset answer refused new h a = untouched a.1.0
-  touches now heard old (Entry layer key) answer refused new h a = untouched a.1.0
-  touches now heard old (SlotAt page slot) answer refused new h a = untouched a.1.0
-  touches now heard old Leds answer refused new h a = untouched a.1.0
+  touches now heard old event answer refused new h a = grind (arith, common_steps, worked_in, untouched)
 
   pub keeps_sound : (start : SimValue) (past : List Step) → EachStep (IsAnswered defaults) start past → KeepsSound start past
   keeps_sound start [] h = record { sound = λ u. u; untouched = λ n. refl }

@@ -1,5 +1,6 @@
 -- A torn step leaves what the next operation may leave.
-use Rattle.std.proofs.Common.{◌≡◌, ℕ, Bool, Option, None, Some, IsSome, List, [], ◌∷◌, refl, sym, ap, subst}
+use Rattle.std.proofs.lemmas.Grind.{common_steps}
+use Rattle.std.proofs.Common.{◌≡◌, ℕ, Bool, Option, None, Some, IsSome, List, [], ◌∷◌, refl, sym, ap, subst, arith}
 use Rattle.flash_model.specs.Operated.{Outcome}
 use Rattle.flash_model.specs.Sim.{SimValue}
 use Rattle.flash_model.proofs.ByMask.{may_program, may_erase}
@@ -15,7 +16,7 @@ use Rattle.keyboard.specs.Feature.{Where, yes, no}
 use Rattle.keyboard.specs.Conforming.{WorkedOn}
 use Rattle.keyboard.specs.Single.{MayBeTorn}
 use Rattle.world.specs.declared.event.Event.{Event}
-use Rattle.world.specs.declared.event.Event.TheVariants.{Scan, Setup, OutPacket, InPacket, Poll, Work, WorkFault, Cut, CutInWork, BusReset, Entry, SlotAt, Leds}
+use Rattle.world.specs.declared.event.Event.TheVariants.{Work}
 use Rattle.world.specs.declared.event.Answer.{Answer}
 use Rattle.world.specs.declared.event.Answer.TheVariants.{Worked}
 use Rattle.world.specs.Flash.{armed_by}
@@ -56,19 +57,7 @@ module _ (defaults : DefaultCodes) where
 
   torn : (now : Session) (heard : List HostCall) (old : SimValue) (event : Event) (answer : Answer) (refused : Bool) (new : SimValue) → Here defaults now old → Answered defaults now heard old event answer refused new → IsTorn event
       → Where (IsSome (working defaults now.first now.past)) (MayBeTorn defaults now.first now.past new.image) (new.image ≡ old.image)
-  torn now heard old (WorkFault mask) answer refused new h (work, e, w, r) t = torn_by now (working defaults now.first now.past) old mask.items work new refl h w
-  torn now heard old (CutInWork mask) answer refused new h (work, e, w, r) t = torn_by now (working defaults now.first now.past) old mask.items work new refl h w
-  torn now heard old Work answer refused new h a t = absurd t
-  torn now heard old (Scan scan) answer refused new h a t = absurd t
-  torn now heard old (Setup bytes) answer refused new h a t = absurd t
-  torn now heard old (OutPacket packet) answer refused new h a t = absurd t
-  torn now heard old InPacket answer refused new h a t = absurd t
-  torn now heard old Poll answer refused new h a t = absurd t
-  torn now heard old Cut answer refused new h a t = absurd t
-  torn now heard old BusReset answer refused new h a t = absurd t
-  torn now heard old (Entry layer key) answer refused new h a t = absurd t
-  torn now heard old (SlotAt page slot) answer refused new h a t = absurd t
-  torn now heard old Leds answer refused new h a t = absurd t
+  torn now heard old event answer refused new h a t = grind (arith, common_steps, torn_by)
 
   pub leaves_torn : (start : SimValue) (history : List Step) → IsConforming defaults start history → EachStep (LeavesTorn defaults) start history
   leaves_torn start [] h = tt

@@ -1,4 +1,5 @@
 -- Between two steps that commit a header, over all sessions, at least 127 write to the tail.
+use Rattle.std.proofs.lemmas.Grind.{common_steps}
 use Rattle.std.proofs.Common.{◌≡◌, ◌≢◌, ℕ, zero, suc, ◌≤◌, ◌<◌, Bool, Option, Some, None, List, [], ◌∷◌, ◌++◌, refl, sym, ◌∙◌, subst, arith, ◌⊎◌, inl, inr, append_assoc}
 use Rattle.std.specs.Str.{bytes_eq}
 use Rattle.std.proofs.lemmas.Bool.{cases_eq, cases_Bool}
@@ -30,7 +31,6 @@ use Rattle.keyboard.specs.Conforming.{WorkedOn}
 use Rattle.keyboard.specs.Operated.{IsOfTurn, erases, copies, heads, IsRecord, LosesNothing, Works}
 use Rattle.keyboard.proofs.Steps.{in_target}
 use Rattle.world.specs.declared.event.Event.{Event}
-use Rattle.world.specs.declared.event.Event.TheVariants.{Scan, Setup, OutPacket, InPacket, Poll, Work, WorkFault, Cut, CutInWork, BusReset, Entry, SlotAt, Leds}
 use Rattle.world.specs.declared.event.Answer.{Answer}
 use Rattle.world.specs.Kinds.{Step}
 use Rattle.world.specs.History.{Session, session, host_calls, flash_after, image_after, EachStep}
@@ -124,19 +124,7 @@ module _ (defaults : DefaultCodes) where
 
   wearing : (now : Session) (heard : List HostCall) (old : SimValue) (event : Event) (answer : Answer) (refused : Bool) (new : SimValue) → Here defaults now old
       → Answered defaults now heard old event answer refused new → Wearing old.image new.image
-  wearing now heard old (Scan scan) answer refused new h a = same_flash old new a.1.0
-  wearing now heard old (Setup bytes) answer refused new h a = same_flash old new a.1.0
-  wearing now heard old (OutPacket packet) answer refused new h (by_ep, e, l, u) = same_flash old new u.0
-  wearing now heard old InPacket answer refused new h (by_ep, e, l, f, m) = same_flash old new f
-  wearing now heard old Poll answer refused new h (report, l, f, s) = same_flash old new f
-  wearing now heard old Work answer refused new h (work, e, w, r) = worked_in now old _ work new h w
-  wearing now heard old (WorkFault mask) answer refused new h (work, e, w, r) = worked_in now old _ work new h w
-  wearing now heard old Cut answer refused new h a = same_flash old new a.1.0
-  wearing now heard old (CutInWork mask) answer refused new h (work, e, w, r) = worked_in now old _ work new h w
-  wearing now heard old BusReset answer refused new h a = same_flash old new a.1.0
-  wearing now heard old (Entry layer key) answer refused new h a = same_flash old new a.1.0
-  wearing now heard old (SlotAt page slot) answer refused new h a = same_flash old new a.1.0
-  wearing now heard old Leds answer refused new h a = same_flash old new a.1.0
+  wearing now heard old event answer refused new h a = grind (arith, common_steps, worked_in, same_flash)
 
   wears_at : (start : SimValue) (step : Step) (before : List Step) → EachStep (IsAnswered defaults) start (step ∷ before) → Wearing (image_after start before) step.flash.image
   wears_at start step before h =
