@@ -1,6 +1,6 @@
 //! The keyboard with its flash, as a device behind the USB device layer.
 
-ghost use Rattle.std.specs.Prelude.{◌≡◌, ◌≢◌, ◌+◌, ◌≤◌, ◌∷◌, [], ℕ, List, length};
+ghost use Rattle.std.specs.Prelude.{◌≡◌, ◌≢◌, ◌+◌, ◌≤◌, ◌∷◌, ◌||◌, [], ℕ, false, List, length};
 ghost use Rattle.std.specs.Option.{option_map};
 ghost use Rattle.control_ep.specs.declared.answer.EpAnswer.{EpAnswer as Answer};
 ghost use Rattle.page_turnover.specs.Steps.{CountsAs};
@@ -8,7 +8,7 @@ ghost use Rattle.keymap_store.specs.declared.store.Work.{Work};
 ghost use Rattle.usb_device.specs.Calls.{EpCall};
 ghost use Rattle.usb_device.specs.Calls as Eps;
 ghost use Rattle.keyboard.specs.Calls.{Call, SetUp, Out, In, Polled, Worked, BusReset};
-ghost use Rattle.usb_keyboard.specs.Plain.{plain};
+ghost use Rattle.usb_keyboard.specs.Plain.{plain, is_taken, works_on};
 ghost use Rattle.usb_keyboard.specs.representation.Relation.{RunsSince};
 
 use crate::held::{HoldsKeyboard, PhantomData};
@@ -34,10 +34,11 @@ pub type UsbKeyboard<F> = UsbKeyboardOf<Standard, KeyboardOf<Standard>, F>;
 // The keyboard runs on this flash.
 impl<D: Defaults, K: HoldsKeyboard<D> + Drop, F: NorFlash + Drop> Model for UsbKeyboardOf<D, K, F> {
     ghost use Rattle.keyboard.specs.representation.Value.{KeyboardValue, RunsOn};
+    ghost use Rattle.std.specs.Prelude.{Bool};
 
-    ghost Value = { KeyboardValue × F };
+    ghost Value = { KeyboardValue × F × Bool };
 
-    ghost view = { λ k. (K.held k.keyboard, k.flash) };
+    ghost view = { λ k. (K.held k.keyboard, k.flash, k.may_work) };
 
     ghost invariant = { λ k. RunsOn D.defaults (F.image k.flash) (K.held k.keyboard) };
 }
@@ -63,7 +64,9 @@ fn reason(answer: &keyboard::EpAnswer) -> Option<Why> {
 }
 
 /// Whether a packet was acknowledged.
-fn is_taken(answer: &keyboard::EpAnswer) -> bool {
+fn is_taken(answer: &keyboard::EpAnswer) -> bool
+    ensures { result ≡ is_taken (plain answer.now) }
+{
     match answer {
         keyboard::EpAnswer::Ack => true,
         keyboard::EpAnswer::Nak | keyboard::EpAnswer::Packet(_) | keyboard::EpAnswer::Stall(_) =>
@@ -83,7 +86,8 @@ pub(crate) fn short(bytes: &[u8]) -> Report
 impl<D: Defaults, F: NorFlash + Drop> UsbKeyboardOf<D, KeyboardOf<D>, F> {
     /// The power comes: the keyboard starts on this flash, whose keymap it reads.
     pub fn start_in(room: Room, flash: F) -> UsbKeyboardOf<D, KeyboardOf<D>, F>
-        ensures { RunsSince D.defaults (F.image flash) [] result.0 (F.image result.1) }
+        ensures starts { RunsSince D.defaults (F.image flash) [] result.0 (F.image result.1) }
+        ensures may_work { result.2 ≡ false }
     {
         let keyboard = KeyboardOf::start_in(room, &flash);
         UsbKeyboardOf {
@@ -99,7 +103,8 @@ impl<D: Defaults, F: NorFlash + Drop> UsbKeyboardOf<D, KeyboardOf<D>, F> {
 impl<D: Defaults, K: HoldsKeyboard<D> + Drop, F: NorFlash + Drop> UsbKeyboardOf<D, K, F> {
     /// The power comes: the keyboard, which may be a `&mut` of one, starts over on this flash, whose keymap it reads.
     pub fn start_on(keyboard: K, flash: F) -> UsbKeyboardOf<D, K, F>
-        ensures { RunsSince D.defaults (F.image flash) [] result.0 (F.image result.1) }
+        ensures starts { RunsSince D.defaults (F.image flash) [] result.0 (F.image result.1) }
+        ensures may_work { result.2 ≡ false }
     {
         let mut keyboard = keyboard;
         keyboard.restart(&flash);
@@ -114,7 +119,8 @@ impl<D: Defaults, K: HoldsKeyboard<D> + Drop, F: NorFlash + Drop> UsbKeyboardOf<
 
     /// The power went and came back: the keyboard starts over on its flash as it is.
     pub fn restart(&mut self)
-        ensures { RunsSince D.defaults (F.image self.old.1) [] self.new.0 (F.image self.new.1) }
+        ensures starts { RunsSince D.defaults (F.image self.old.1) [] self.new.0 (F.image self.new.1) }
+        ensures may_work { self.new.2 ≡ false }
     {
         self.keyboard.restart(&self.flash);
         self.may_work = false;
@@ -125,6 +131,7 @@ impl<D: Defaults, K: HoldsKeyboard<D> + Drop, F: NorFlash + Drop> UsbKeyboardOf<
     pub fn step(&mut self) -> Work
         ensures reported { (start : List ℕ) (past : List Call) → RunsSince D.defaults start past self.old.0 (F.image self.old.1)
             → RunsSince D.defaults start (Worked result (F.image self.new.1) ∷ past) self.new.0 (F.image self.new.1) }
+        ensures may_work { self.new.2 ≡ works_on result }
         // at most one operation is made, and a step that fails is a fault of the flash
         ensures counts { CountsAs (result ≡ Work.Idle) (result ≡ Work.Failed) (F.operations self.old.1) (F.operations self.new.1) (F.faults self.old.1) (F.faults self.new.1) }
         // without an operation the flash stays as it is
@@ -159,8 +166,10 @@ impl<D: Defaults, K: HoldsKeyboard<D> + Drop, F: NorFlash + Drop> UsbKeyboardOf<
     }
 
     /// Whether a command may work: where this is false, a step makes no flash operation. It is true from an OUT packet that
-    /// was acknowledged until a step finds no more to do. No clause says it.
-    pub fn may_work(&self) -> bool {
+    /// was acknowledged until a step finds no more to do.
+    pub fn may_work(&self) -> bool
+        ensures { result ≡ self.now.2 }
+    {
         self.may_work
     }
 
@@ -181,6 +190,7 @@ impl<D: Defaults, K: HoldsKeyboard<D> + Drop, F: NorFlash + Drop> Endpoints
             → RunsSince D.defaults start (SetUp packet ∷ past) self.new.0 (F.image self.new.1) }
         ensures refines { (calls : List EpCall) → RefinesUsb D.defaults calls self.old.0 (F.image self.old.1) → RefinesUsb D.defaults (Eps.SetUp packet ∷ calls) self.new.0 (F.image self.new.1) }
         ensures flash { self.new.1 ≡ self.old.1 }
+        ensures may_work { self.new.2 ≡ self.old.2 }
     {
         self.keyboard.setup(packet);
         self.why = None;
@@ -191,6 +201,7 @@ impl<D: Defaults, K: HoldsKeyboard<D> + Drop, F: NorFlash + Drop> Endpoints
             → (answer : Answer) × RunsSince D.defaults start (Out packet.now answer ∷ past) self.new.0 (F.image self.new.1) × (result ≡ plain answer) }
         ensures refines { (calls : List EpCall) → RefinesUsb D.defaults calls self.old.0 (F.image self.old.1) → RefinesUsb D.defaults (Eps.Out packet.now result ∷ calls) self.new.0 (F.image self.new.1) }
         ensures flash { self.new.1 ≡ self.old.1 }
+        ensures may_work { self.new.2 ≡ (self.old.2 || is_taken result) }
     {
         let answer = self.keyboard.out(packet);
         self.may_work = self.may_work || is_taken(&answer);
@@ -203,6 +214,7 @@ impl<D: Defaults, K: HoldsKeyboard<D> + Drop, F: NorFlash + Drop> Endpoints
             → (answer : Answer) × RunsSince D.defaults start (In answer ∷ past) self.new.0 (F.image self.new.1) × (result ≡ plain answer) }
         ensures refines { (calls : List EpCall) → RefinesUsb D.defaults calls self.old.0 (F.image self.old.1) → RefinesUsb D.defaults (Eps.In result ∷ calls) self.new.0 (F.image self.new.1) }
         ensures flash { self.new.1 ≡ self.old.1 }
+        ensures may_work { self.new.2 ≡ self.old.2 }
     {
         let answer = self.keyboard.in_packet();
         self.why = reason(&answer);
@@ -213,6 +225,7 @@ impl<D: Defaults, K: HoldsKeyboard<D> + Drop, F: NorFlash + Drop> Endpoints
         ensures reported { (start : List ℕ) (past : List Call) → RunsSince D.defaults start past self.old.0 (F.image self.old.1)
             → RunsSince D.defaults start (Polled (option_map (λ r. r.items) result) ∷ past) self.new.0 (F.image self.new.1) }
         ensures refines { (calls : List EpCall) → RefinesUsb D.defaults calls self.old.0 (F.image self.old.1) → RefinesUsb D.defaults (Eps.Polled (option_map (λ r. r.items) result) ∷ calls) self.new.0 (F.image self.new.1) }
+        ensures may_work { self.new.2 ≡ self.old.2 }
     {
         match self.keyboard.poll() {
             Some(report) => Some(short(&report)),
@@ -224,6 +237,7 @@ impl<D: Defaults, K: HoldsKeyboard<D> + Drop, F: NorFlash + Drop> Endpoints
         ensures reported { (start : List ℕ) (past : List Call) → RunsSince D.defaults start past self.old.0 (F.image self.old.1)
             → RunsSince D.defaults start (BusReset ∷ past) self.new.0 (F.image self.new.1) }
         ensures refines { (calls : List EpCall) → RefinesUsb D.defaults calls self.old.0 (F.image self.old.1) → RefinesUsb D.defaults (Eps.BusReset ∷ calls) self.new.0 (F.image self.new.1) }
+        ensures may_work { self.new.2 ≡ self.old.2 }
     {
         self.keyboard.bus_reset();
     }
@@ -232,7 +246,7 @@ impl<D: Defaults, K: HoldsKeyboard<D> + Drop, F: NorFlash + Drop> Endpoints
 impl<D: Defaults, K: HoldsKeyboard<D> + Drop, F: NorFlash + Drop> Works for UsbKeyboardOf<D, K, F> {
     ghost use Rattle.usb_keyboard.specs.representation.Relation.{StepIs};
 
-    ghost works = { λ k n. StepIs D.defaults k.0 (F.image k.1) n.0 (F.image n.1) };
+    ghost works = { λ k n. StepIs D.defaults k.0 (F.image k.1) n.0 (F.image n.1) n.2 };
 
     fn work(&mut self) {
         let _work = self.step();
@@ -243,7 +257,7 @@ impl<D: Defaults, K: HoldsKeyboard<D> + Drop, F: NorFlash + Drop> ScansMatrix
     for UsbKeyboardOf<D, K, F> {
     ghost use Rattle.usb_keyboard.specs.representation.Relation.{ScanIs};
 
-    ghost scans = { λ k rows n. ScanIs D.defaults k.0 (F.image k.1) rows n.0 (F.image n.1) };
+    ghost scans = { λ k rows n. ScanIs D.defaults k.0 (F.image k.1) rows n.0 (F.image n.1) × (n.2 ≡ k.2) };
 
     fn scan(&mut self, rows: [u16; 6]) {
         self.keyboard.scan(Scan { rows });

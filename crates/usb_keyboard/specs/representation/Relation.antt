@@ -1,6 +1,6 @@
 -- Representation: a keyboard and its flash refine the calls of their session, newest first.
 use Rattle.shapes.specs.Shapes.{Bytes}
-use Rattle.std.specs.Prelude.{◌≡◌, ◌<◌, ◌∷◌, ◌++◌, ℕ, Some, List}
+use Rattle.std.specs.Prelude.{◌≡◌, ◌<◌, ◌∷◌, ◌++◌, ℕ, Bool, Some, List}
 use Rattle.layers.specs.Codes.{layers, keys, DefaultCodes}
 use Rattle.layers.specs.Entries.{written}
 use Rattle.layers.specs.declared.command.Command.{Command}
@@ -11,7 +11,7 @@ use Rattle.keymap_store.specs.declared.store.Work.{Work}
 use Rattle.keyboard.specs.Calls.{Call, Scanned, Worked, image_after}
 use Rattle.keyboard.specs.representation.Relation.{Refines}
 use Rattle.keyboard.specs.representation.Value.{KeyboardValue}
-use Rattle.usb_keyboard.specs.Plain.{usb_calls}
+use Rattle.usb_keyboard.specs.Plain.{usb_calls, works_on}
 use Rattle.usb_keyboard.specs.Stored.{AllSent, Has}
 
 module _ (defaults : DefaultCodes) where
@@ -38,10 +38,10 @@ module _ (defaults : DefaultCodes) where
     pub has : (layer key code : ℕ) → layer < layers → key < keys → written defaults command layer key ≡ Some code
         → NoneAcceptedWrites defaults (confirmed.after ++ confirmation ∷ confirmed.between) (confirmed.packet ∷ before) layer key → Has defaults start past layer key code
 
-  -- a step of the flash work
-  abbrev pub StepIs : KeyboardValue → Bytes → KeyboardValue → Bytes → Type 0
-  StepIs old image new left =
-      (start : Bytes) (past : List Call) → RunsSince start past old image → (work : Work) × RunsSince start (Worked work left ∷ past) new left
+  -- a step of the flash work, behind which another is due where it says so
+  abbrev pub StepIs : KeyboardValue → Bytes → KeyboardValue → Bytes → Bool → Type 0
+  StepIs old image new left due =
+      (start : Bytes) (past : List Call) → RunsSince start past old image → (work : Work) × RunsSince start (Worked work left ∷ past) new left × (due ≡ works_on work)
 
   -- a scan of the matrix
   abbrev pub ScanIs : KeyboardValue → Bytes → List ℕ → KeyboardValue → Bytes → Type 0

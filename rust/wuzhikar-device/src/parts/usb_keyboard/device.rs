@@ -113,7 +113,7 @@ impl<D: Defaults, K: HoldsKeyboard<D>, F: NorFlash> UsbKeyboardOf<D, K, F> {
     }
 
     /// Whether a command may work: where this is false, a step makes no flash operation. It is true from an OUT packet that
-    /// was acknowledged until a step finds no more to do. No clause says it.
+    /// was acknowledged until a step finds no more to do.
     pub fn may_work(&self) -> bool {
         self.may_work
     }

@@ -10,4 +10,4 @@ returns g c =
     → RunsSince g.D.Defaults.defaults start (Keyboards.BusReset ∷ past) (g.K.HoldsKeyboard.held c.bus_reset.new.self) (g.F.NorFlash.image c.self.inside.flash) = λ start past r.
     let s = subst (λ v. RunsSince g.D.Defaults.defaults start past v.0 (g.F.NorFlash.image v.1)) (sym c.self.view_is) r in
     record { refines = c.bus_reset.ensures.refines start past s.refines; image_is = s.image_is } in
-    record { reported = reported; refines = λ calls s. (s.0, Keyboards.BusReset ∷ s.1, reported s.0 s.1 s.2, ap (λ l. Eps.BusReset ∷ l) s.3) }
+    record { reported = reported; refines = λ calls s. (s.0, Keyboards.BusReset ∷ s.1, reported s.0 s.1 s.2, ap (λ l. Eps.BusReset ∷ l) s.3); may_work = ap (λ v. v.2) c.self.view_is }

@@ -18,4 +18,5 @@ returns g c =
           let t = reported s.0 s.1 s.2 in
           (s.0, Keyboards.In t.0 ∷ s.1, t.1, ap (λ l. Eps.In (plain t.0) ∷ l) s.3 ∙ ap (λ x. Eps.In x ∷ calls) (sym t.2));
       flash = ap (λ v. v.1) c.self.view_is;
+      may_work = ap (λ v. v.2) c.self.view_is;
     }

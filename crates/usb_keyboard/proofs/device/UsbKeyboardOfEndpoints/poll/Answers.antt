@@ -26,4 +26,4 @@ returns g c =
       | in-None w ↦ rw (w.in-None.is, w.result-is) refl
     ] in
     record { refines = subst P same (c.poll.ensures.refines start past s.refines); image_is = s.image_is } in
-    record { reported = reported; refines = λ calls s. (s.0, Polled (option_map (λ r. r.items) c.match-poll.result) ∷ s.1, reported s.0 s.1 s.2, ap (λ l. Eps.Polled (option_map (λ r. r.items) c.match-poll.result) ∷ l) s.3) }
+    record { reported = reported; refines = λ calls s. (s.0, Polled (option_map (λ r. r.items) c.match-poll.result) ∷ s.1, reported s.0 s.1 s.2, ap (λ l. Eps.Polled (option_map (λ r. r.items) c.match-poll.result) ∷ l) s.3); may_work = ap (λ v. v.2) c.self.view_is }

@@ -14,4 +14,5 @@ returns g c =
       reported = reported;
       refines = λ calls s. (s.0, Keyboards.SetUp c.args.packet ∷ s.1, reported s.0 s.1 s.2, ap (λ l. Eps.SetUp c.args.packet ∷ l) s.3);
       flash = ap (λ v. v.1) c.self.view_is;
+      may_work = ap (λ v. v.2) c.self.view_is;
     }
