@@ -14,7 +14,7 @@ import sys
 
 ROOT = os.path.dirname(os.path.dirname(os.path.dirname(os.path.abspath(__file__))))
 # How many may still stand unused in a crate; a number here only falls.
-MOST = {"debounce": 1, "ecc_theorem": 1, "kbsim": 3, "key_reports": 1, "layers": 3, "reports": 18, "world": 2}
+MOST = {"debounce": 1, "kbsim": 3, "key_reports": 1, "layers": 3, "reports": 18, "world": 2}
 
 NAME = r"[A-Za-z_][\w'-]*"
 BEGINS = re.compile(rf"(?:abbrev |unfoldable |pub |record |data )*({NAME})(?= [({{:]|$)")

@@ -138,15 +138,14 @@ DETAILS = Rules(
 
 SIMULATOR = Rules(
     name="kbsim",
-    crates=("host", "world", "ecc_theorem", "text_io", "script", "kbsim", "parse_lines", "explanations"),
+    crates=("host", "world", "text_io", "script", "kbsim", "parse_lines", "explanations"),
     below=(KEYBOARD, LOG, READER),
     allocs=True,
     conditions={("world", module): LEFT_OUT for module in ("examples", "readings", "sessions")},
     hidden=frozenset({("world", "WorldOf::new"), ("host", "Host::new")}),
     fallible_clones=frozenset({("host", "UsageList"), ("host", "Reading")}),
-    derives={("ecc_theorem", "Reported"): ("Debug",), ("kbsim", "Outcome"): ("Debug",), ("kbsim", "Step"): ("Debug",)},
+    derives={("kbsim", "Outcome"): ("Debug",), ("kbsim", "Step"): ("Debug",)},
     docs={("host", ""): [("`descriptor_parse::Parser` and `host_extract`", "`wuzhikar_reader::Parser` and `wuzhikar_reader::extract`")],
-          ("ecc_theorem", ""): [("in two units each (`image_of`).", "in two units each.")],
           ("kbsim", ""): [("The program `kbsim_cli` calls it", "The program of this crate calls it")],
           ("parse_lines", ""): [("The program `kbsim_cli` calls them", "The program of this crate calls them")]},
 )

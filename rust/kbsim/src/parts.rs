@@ -3,7 +3,6 @@
 //! without a word, and has calls with a condition on their caller that nothing checks.
 #![allow(dead_code, unused_imports, unused_variables, clippy::all)]
 
-pub mod ecc_theorem;
 pub mod explanations;
 pub mod host;
 pub mod kbsim;

@@ -1,4 +1,0 @@
-pub mod WorkCut
-pub mod Happenings
-pub mod Sessions
-pub mod representation
