@@ -24,15 +24,7 @@ const WRONG: &[(&str, &[(&str, &str)])] = &[
     ("trusts_a_blank_read", &[("    erase_marks(flash, layout.spare)?;\n", TRUSTS)]),
     (
         "leaves_out_open",
-        &[(
-            "        program_mark(
-            &mut self.flash,
-            self.layout.held[page].page as usize,
-            OPEN,
-            ZEROS,
-        )?;\n",
-            "",
-        )],
+        &[("    program_mark(flash, layout.held[page].page as usize, OPEN, ZEROS)?;\n", "")],
     ),
     ("leaves_out_about", &[("is_done && !is_about", "{ let _ = is_about; is_done }")]),
     ("leaves_out_done", &[("is_done && !is_about", "{ let _ = is_done; !is_about }")]),
@@ -48,8 +40,14 @@ const WRONG: &[(&str, &[(&str, &str)])] = &[
             "",
         )],
     ),
-    ("tells_a_fault_unsettled", &[("Err(self.settle_fault(page, slot))", "Err(FlashFault)")]),
-    ("tells_a_fault_in_doubt", &[("Err(Stop::InDoubt) => Err(self.give_up()),", "Err(Stop::InDoubt) => Err(FlashFault),")]),
+    ("tells_a_fault_unsettled", &[("Err(settle(flash, layout, page, slot))", "Err(Failed::Torn)")]),
+    (
+        "tells_a_fault_in_doubt",
+        &[
+            ("            flash.give_up();\n            Err(Failed::Lost)\n", "            Err(Failed::Torn)\n"),
+            ("                self.is_lost = true;\n                self.flash.give_up();\n", ""),
+        ],
+    ),
     ("bumps_forward", &[("pages - 1 - behind)?;", "behind)?;")]),
     ("bumps_without_about", &[("    program_mark(flash, at, about(index), ZEROS)?;\n", "")]),
     (
@@ -57,9 +55,9 @@ const WRONG: &[(&str, &[(&str, &str)])] = &[
         &[("    program_mark(flash, old.page as usize, about(old.index as u16), ZEROS)?;\n", "")],
     ),
     ("renews_no_marks", &[("< flash.triples() / 2", "< flash.triples()")]),
-    ("programs_in_place", &[("        if held != BLANK {", "        if false {")]),
+    ("programs_in_place", &[("    if held != BLANK {", "    if false {")]),
     ("makes_over_claims", &[("    clear_claims(flash, pages - 1)?;\n", "")]),
-    ("takes_over_unsettled", &[("            program_mark(flash, at, OPEN, ZEROS)?;\n", "")]),
+    ("takes_over_unsettled", &[("        program_mark(flash, at, OPEN, ZEROS)\n", "        Ok(())\n")]),
     ("formats_at_once", &[("Ok(layout) => erase_each(flash, layout),", "Ok(_) => make(flash, false),")]),
     ("takes_other_marks", &[("if word.place != layout.place(at) {", "if false {")]),
 ];
@@ -89,7 +87,7 @@ fn settle_in_place<F: MarkedFlash>(flash: &mut F, layout: &mut Layout, page: usi
 const CRATE: &str = "../../rust/wuzhikar-log/src";
 
 /// The modules of the adapter, below the trait of its flash.
-const MODULES: [&str; 7] = ["errors", "layout", "marks", "moving", "starting", "making", "steady"];
+const MODULES: [&str; 8] = ["errors", "layout", "marks", "moving", "starting", "making", "writing", "steady"];
 
 /// A file of the crate, without the lines that a module inside another file may not have.
 fn source(name: &str) -> String {

@@ -61,9 +61,8 @@ FAULTS = [
                 "SlotFlash::new(Nvmc, END - LOG, PAGES).ok()")],
           ["starts", "300", "1"], "LOST", "steady"),
     Fault("a steady flash does not mark that a page is written",
-          [Edit("rust/wuzhikar-log/src/parts/steady_flash/steady.rs",
-                "program_mark(\n            &mut self.flash,\n            self.layout.held[page].page as usize,\n            OPEN,\n            ZEROS,\n"
-                "        )?;\n        self.layout", "self.layout")],
+          [Edit("rust/wuzhikar-log/src/parts/steady_flash/writing.rs",
+                "    program_mark(flash, layout.held[page].page as usize, OPEN, ZEROS)?;\n", "")],
           ["starts", "300", "1"], "LOST", "steady"),
     Fault("the firmware waits for a flash that is ready",
           [Edit(f"{FIRMWARE}/nvmc.rs", "while read(READY) & 1 == 0 {}", "while read(READY) & 1 == 1 {}")],

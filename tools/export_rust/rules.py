@@ -50,6 +50,8 @@ class Rules:
 
 SAME_FLASH = "**Needs** the flash that the log was mounted on, as the log left it. Nothing checks it: [`FlashLog`](crate::FlashLog) holds both."
 KEPT_UNITS = "**Needs** a flash that [`PairedFlash::format`] made, and that nothing but such an adapter wrote to since. Nothing checks it."
+STEADY_PAGES = ("**Needs** a flash that nothing but a `SteadyFlash` wrote to since [`SteadyFlash::format`] made it, or one without marks. "
+                "Nothing checks it.")
 
 LOG = Rules(
     name="wuzhikar-log",
@@ -58,7 +60,8 @@ LOG = Rules(
                 ("page_turnover", "operation"): LEFT_OUT},
     hosted=frozenset({("flash_model", "sim")}),
     owed={("page_turnover", "Log::words"): SAME_FLASH, ("page_turnover", "Log::step"): SAME_FLASH,
-          ("ecc_flash", "PairedFlash::mount"): KEPT_UNITS},
+          ("ecc_flash", "PairedFlash::mount"): KEPT_UNITS,
+          ("steady_flash", "SteadyFlash::mount"): STEADY_PAGES, ("steady_flash", "SteadyFlash::take_over"): STEADY_PAGES},
     hidden=frozenset({("flash_model", "SimFlash::new")}),
     calls={("flash_model", "SimFlash::new"): "SimCalls", ("page_turnover", "Log::begin_append"): "LogCalls",
            ("page_turnover", "Log::begin_turn"): "LogCalls", ("page_turnover", "Log::offer_copy"): "LogCalls",

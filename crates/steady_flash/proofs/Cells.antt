@@ -74,7 +74,7 @@ marked bytes mid new e c t p some =
       most = h.most;
     }
 
-blank_eight : IsEight blank
+pub blank_eight : IsEight blank
 blank_eight = record {
   eight = length-replicate {A = ℕ} 8 255;
   each = λ k. elim (cases_lt k 8) [

@@ -11,7 +11,7 @@ use Rattle.steady_flash.specs.declared.layout.Layout.{Layout}
 use Rattle.steady_flash.proofs.Cells.{firm_reading}
 
 -- what reads as a claim was begun as one
-begun : (marks : ℕ → ℕ → Written) (pages at index page number : ℕ) (read : List ℕ) → IsMarkReading (marks at (1 + 3 * index)) read → IsClaim pages at page number read → IsBegun marks pages at index page number
+pub begun : (marks : ℕ → ℕ → Written) (pages at index page number : ℕ) (read : List ℕ) → IsMarkReading (marks at (1 + 3 * index)) read → IsClaim pages at page number read → IsBegun marks pages at index page number
 begun marks pages at index page number read r c = record { bytes = read; begun = r.no_other_word c.word; claims = c }
 
 -- and a firm claim reads as this claim
@@ -41,7 +41,7 @@ still old new pages at index p n read k e l = elim k [
   | inr taken ↦ no_less old.number new.number n e taken.2 l
 ]
 
-firm_here : (marks : ℕ → ℕ → Written) (pages at index p x i n : ℕ) (read : List ℕ) → x ≡ at → i ≡ index → IsFirm (marks x (1 + 3 * i)) pages x p n → IsReading (marks at (1 + 3 * index)).cells read → IsClaim pages at p n read
+pub firm_here : (marks : ℕ → ℕ → Written) (pages at index p x i n : ℕ) (read : List ℕ) → x ≡ at → i ≡ index → IsFirm (marks x (1 + 3 * i)) pages x p n → IsReading (marks at (1 + 3 * index)).cells read → IsClaim pages at p n read
 firm_here marks pages at index p x i n read e f firm r =
     let k = rw (e, f) at firm in
     read_firm (marks at (1 + 3 * index)) pages at p n read k r
@@ -76,7 +76,7 @@ found_step size marks before old new at index read c b t r f e taken least =
     }
 
 -- all claims of a page have been read
-passed : (x i at triples : ℕ) → i < triples → (x < at + 1) ⊎ ((x ≡ at + 1) × (i < 0)) → (x < at) ⊎ ((x ≡ at) × (i < triples))
+pub passed : (x i at triples : ℕ) → i < triples → (x < at + 1) ⊎ ((x ≡ at + 1) × (i < 0)) → (x < at) ⊎ ((x ≡ at) × (i < triples))
 passed x i at triples l h = elim (cases_lt x at) [
   | inl before ↦ inl before
   | inr other ↦ elim h [

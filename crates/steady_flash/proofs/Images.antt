@@ -1,10 +1,10 @@
 -- The bytes of pages by their slots.
-use Rattle.std.proofs.Common.{◌≡◌, ℕ, ◌+◌, ◌*◌, ◌/◌, ◌%◌, ◌<◌, List, length, get_or, arith, sym, ◌∙◌, inl, inr, refl}
+use Rattle.std.proofs.Common.{◌≡◌, ℕ, ◌+◌, ◌*◌, ◌/◌, ◌%◌, ◌<◌, ◌≤◌, List, length, get_or, arith, sym, ◌∙◌, ap, inl, inr, refl}
 use Rattle.std.proofs.lemmas.Bool.{cases_lt}
 use Rattle.std.proofs.lemmas.List.{get_or_past}
 use Rattle.std.proofs.lemmas.List.FromFn.{length-map-range_with_len, get_or-map-range_with_len}
 use Rattle.std.proofs.lemmas.Grind.{same_number_lists}
-use Rattle.flash_model.specs.Image.{place_of, slot_at}
+use Rattle.flash_model.specs.Image.{place_of, slot_at, page_count, IsImage}
 use Rattle.flash_model.specs.Operations.{OneSlot, OnePage}
 use Rattle.flash_model.proofs.Places.{slot_byte, slot_room}
 use Rattle.flash_model.proofs.Writes.{one_slot, one_page}
@@ -57,3 +57,21 @@ pub same_image : (slot slot' : ℕ → ℕ → List ℕ) (n : ℕ) → ((q t : �
 same_image slot slot' n same =
     same_number_lists (bytes_of slot' n) (bytes_of slot n) (length-bytes_of slot' n ∙ sym (length-bytes_of slot n))
     (λ j l. same_byte slot slot' n j (λ b. same (j / 4096) (j % 4096 / 8) (omega arith) (omega arith)))
+
+-- the image is one of whole pages
+pub page_count-bytes_of : (slot : ℕ → ℕ → List ℕ) (n : ℕ) → page_count (bytes_of slot n) ≡ n
+page_count-bytes_of slot n = rw (length-bytes_of slot n) (omega arith)
+
+pub is_image : (slot : ℕ → ℕ → List ℕ) (n : ℕ) → ((p s : ℕ) → p < n → s < 512 → IsEight (slot p s)) → 2 ≤ n → n ≤ 8 → IsImage (bytes_of slot n)
+is_image slot n e l m =
+    let c = page_count-bytes_of slot n in
+    let w = length-bytes_of slot n in
+    record {
+      whole = w ∙ ap (λ i. 4096 * i) (sym c);
+      least = rw c l;
+      most = rw c m;
+      bytes = λ j. elim (cases_lt j (4096 * n)) [
+        | inl b ↦ rw (image_byte slot n j b) ((e (j / 4096) (j % 4096 / 8) (omega arith) (omega arith)).each (j % 8))
+        | inr b ↦ rw (get_or_past {X = ℕ} (bytes_of slot n) j 0 (rw w b)) (omega arith)
+      ];
+    }

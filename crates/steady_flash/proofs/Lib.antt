@@ -9,3 +9,6 @@ pub mod Shows
 pub mod Claiming
 pub mod Tearing
 pub mod Witness
+pub mod Telling
+pub mod Beginning
+pub mod Doubts

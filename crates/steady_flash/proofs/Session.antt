@@ -13,7 +13,10 @@ use Rattle.steady_flash.specs.Cells.{IsEight, Written, blank, erased}
 use Rattle.steady_flash.specs.Marked.{Size, Same, OnePlace, OnePageOfPlaces}
 use Rattle.steady_flash.specs.Layout.{held_at, IsLaidOut}
 use Rattle.steady_flash.specs.Moves.{Holds, IsErasedPage, IsCopiedTo, IsCopy, moved}
-use Rattle.steady_flash.specs.Shown.{shown, IsSettled, IsSettledBut, IsKept, IsChanged, IsBlanked, IsTornInto, image_of}
+use Rattle.steady_flash.specs.Shown.{shown, IsSettled, IsSettledBut, IsKept, IsChanged, IsBlanked, IsTornInto, IsDoubted, image_of}
+use Rattle.steady_flash.specs.Faults.{LeavesEither}
+use Rattle.steady_flash.specs.declared.writing.Failed.{Failed}
+use Rattle.steady_flash.specs.declared.writing.Failed.TheVariants.{Torn, Lost, InDoubt}
 use Rattle.steady_flash.specs.declared.layout.Held.{Held}
 use Rattle.steady_flash.specs.declared.layout.Layout.{Layout}
 use Rattle.steady_flash.specs.declared.moving.Changed.{Changed}
@@ -73,7 +76,7 @@ changed_by_move size layout old new page change l b m settled o copy = record {
   ];
 }
 
-erased_holds : (place : Written) → place ≡ erased → Holds place place.cells.least
+pub erased_holds : (place : Written) → place ≡ erased → Holds place place.cells.least
 erased_holds place e = rw e holds_erased
 
 pub blanked_by_move : (size : Size) (layout : Layout) (old new : ℕ → ℕ → Written) (page : ℕ) → IsLaidOut size layout → page < layout.pages → IsSettled old layout → OnePageOfPlaces old layout.spare new → IsErasedPage new layout.spare → IsBlanked old layout page new (moved layout page)
@@ -146,6 +149,20 @@ torn_into layout after old mid new was page slot bytes same pages t = record {
   };
   torn = t.torn;
 }
+
+pub doubted_from : (layout after : Layout) (old mid new : ℕ → ℕ → Written) (was : Layout) (page slot : ℕ) → ((p s : ℕ) → p < layout.pages → s < 512 → (p ≡ page → s ≡ slot → ⊥) → shown mid was p s ≡ shown old layout p s) → was.pages ≡ layout.pages
+    → IsDoubted mid was page slot new after → IsDoubted old layout page slot new after
+doubted_from layout after old mid new was page slot same pages d = record {
+  settled = d.settled;
+  pages = d.pages ∙ pages;
+  others = λ p s b m apart. d.others p s (rw pages b) m apart ∙ same p s b m apart;
+}
+
+-- what is left, under what its own says
+pub left_as : (why : Failed) (P Q P' Q' : Type 0) → (P → P') → (Q → Q') → LeavesEither why P Q → LeavesEither why P' Q'
+left_as Torn P Q P' Q' f g h = f h
+left_as Lost P Q P' Q' f g h = f h
+left_as InDoubt P Q P' Q' f g h = g h
 
 -- the image
 pub same_images_of : (layout after : Layout) (old new : ℕ → ℕ → Written) → IsKept old layout new after → image_of new after ≡ image_of old layout

@@ -59,7 +59,7 @@ settled_still old at marks slots marks' slots' layout after p h u s t = as_read 
 from_read : (old mid new : Written) → mid ≡ old → IsReadAs mid new → IsReadAs old new
 from_read old mid new e r = rw e at r
 
-told_there : (marks slots marks' slots' : ℕ → ℕ → Written) (at there : ℕ) → there ≡ at → marks' at 0 ≡ marks at 0 → ((s : ℕ) → slots' at s ≡ slots at s) → IsOpenTold marks slots at → IsOpenTold marks' slots' there
+pub told_there : (marks slots marks' slots' : ℕ → ℕ → Written) (at there : ℕ) → there ≡ at → marks' at 0 ≡ marks at 0 → ((s : ℕ) → slots' at s ≡ slots at s) → IsOpenTold marks slots at → IsOpenTold marks' slots' there
 told_there marks slots marks' slots' at there e m k told = rw e (λ b s t. rw (k s) (told (rw m at b) s t))
 
 -- and one that is settled now was as it is found

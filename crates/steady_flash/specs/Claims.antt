@@ -110,6 +110,10 @@ pub record HasRoom (triples : ℕ) (held : Held) : Type 0 where
 abbrev pub IsRaised : Held → Held → Type 0 → Type 0
 IsRaised old new here = (new ≡ old) ⊎ (here × (new.number ≡ old.number + 2))
 
+-- no page is held by a number greater by more than one
+abbrev pub IsNoGreater : Layout → Layout → Type 0
+IsNoGreater old new = (p : ℕ) → (held_at new.held p).number ≤ (held_at old.held p).number + 1
+
 -- each mark of a page is erased
 abbrev pub IsErasedMarks : (ℕ → ℕ → Written) → ℕ → ℕ → Type 0
 IsErasedMarks marks triples at = (m : ℕ) → m ≤ 3 * triples → marks at m ≡ erased

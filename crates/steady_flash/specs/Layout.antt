@@ -2,6 +2,7 @@
 use Rattle.std.specs.Prelude.{◌≡◌, ℕ, ◌+◌, ◌<◌, ◌≤◌, ◌^◌, List, length, slice_index_or, false}
 use Rattle.steady_flash.specs.declared.layout.Held.{Held}
 use Rattle.steady_flash.specs.declared.layout.Layout.{Layout}
+use Rattle.steady_flash.specs.declared.moving.TheConstants.{LAST_WRITTEN}
 use Rattle.steady_flash.specs.Marked.{Size}
 
 -- the page of the flash that holds a page of the log
@@ -30,3 +31,7 @@ pub record IsLaidOut (size : Size) (layout : Layout) : Type 0 where
   pub placed : IsPlaced size layout
   pub apart : (p q : ℕ) → p < layout.pages → q < layout.pages → (held_at layout.held p).page ≡ (held_at layout.held q).page → p ≡ q
   pub free : (p : ℕ) → p < layout.pages → (held_at layout.held p).page ≡ layout.spare → ⊥
+
+-- the pages have numbers for so many operations more
+abbrev pub LastsFor : Layout → ℕ → Type 0
+LastsFor layout n = (p : ℕ) → p < layout.pages → (held_at layout.held p).number + n ≤ LAST_WRITTEN + 1

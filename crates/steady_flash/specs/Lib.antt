@@ -5,3 +5,5 @@ pub mod Moves
 pub mod Shown
 pub mod Healthy
 pub mod Claims
+pub mod Told
+pub mod Faults

@@ -1,6 +1,6 @@
 -- Trusted: what is shown of a log's pages.
 use Rattle.shapes.specs.Shapes.{Bytes}
-use Rattle.std.specs.Prelude.{◌≡◌, ℕ, ◌*◌, ◌/◌, ◌%◌, ◌<◌, map, slice_index}
+use Rattle.std.specs.Prelude.{◌≡◌, ℕ, ◌*◌, ◌/◌, ◌%◌, ◌<◌, ◌==◌, ◌&&◌, map, slice_index, if◌then◌else◌, Option, Some, None}
 use Rattle.std.specs.List.{range_with_len}
 use Rattle.flash_model.specs.Torn.{ProgramMayLeave}
 use Rattle.flash_model.specs.declared.TheConstants.{PAGE_SLOTS}
@@ -8,6 +8,7 @@ use Rattle.steady_flash.specs.Cells.{Written, IsReading, blank}
 use Rattle.steady_flash.specs.Layout.{held_at}
 use Rattle.steady_flash.specs.Moves.{Holds}
 use Rattle.steady_flash.specs.declared.layout.Layout.{Layout}
+use Rattle.steady_flash.specs.declared.layout.Doubt.{Doubt}
 
 -- a slot of the log: what the cells of its place hold
 abbrev pub shown : (ℕ → ℕ → Written) → Layout → ℕ → ℕ → Bytes
@@ -24,6 +25,19 @@ bytes_of slot pages = map (λ j. slice_index (slot (j / 4096) (j % 4096 / 8)) (j
 -- the image of the log's flash
 abbrev pub image_of : (ℕ → ℕ → Written) → Layout → Bytes
 image_of slots layout = bytes_of (shown slots layout) layout.pages
+
+-- what a slot of the log reads as: one whose program was given up, as it was before that
+abbrev pub read_as : (ℕ → ℕ → Written) → Layout → Option Doubt → ℕ → ℕ → Bytes
+read_as slots layout None = shown slots layout
+read_as slots layout (Some doubt) = λ page slot. if doubt.page == page && doubt.slot == slot then blank else shown slots layout page slot
+
+-- the image of the log's flash as it reads
+abbrev pub image_as : (ℕ → ℕ → Written) → Layout → Option Doubt → Bytes
+image_as slots layout doubt = bytes_of (read_as slots layout doubt) layout.pages
+
+-- no slot of the log but this one has a cell in doubt
+abbrev pub IsSettledBeside : (ℕ → ℕ → Written) → Layout → Option Doubt → Type 0
+IsSettledBeside slots layout doubt = (p s : ℕ) → p < layout.pages → s < PAGE_SLOTS → (doubt ≡ Some (record { page = p; slot = s }) → ⊥) → Holds (slots (held_at layout.held p).page s) (shown slots layout p s)
 
 -- an image in which each slot is one that the cells of its place may read as
 pub record IsReadImage (slots : ℕ → ℕ → Written) (layout : Layout) (image : Bytes) : Type 0 where
@@ -60,3 +74,9 @@ pub record IsTornInto (old : ℕ → ℕ → Written) (layout : Layout) (page sl
   pub now : Bytes
   pub changed : IsChanged old layout page slot now new after
   pub torn : ProgramMayLeave blank bytes now
+
+-- one slot of the log is in doubt, and each other is as it was
+pub record IsDoubted (old : ℕ → ℕ → Written) (layout : Layout) (page slot : ℕ) (new : ℕ → ℕ → Written) (after : Layout) : Type 0 where
+  pub settled : IsSettledBut new after page slot
+  pub pages : after.pages ≡ layout.pages
+  pub others : (p s : ℕ) → p < layout.pages → s < PAGE_SLOTS → (p ≡ page → s ≡ slot → ⊥) → shown new after p s ≡ shown old layout p s

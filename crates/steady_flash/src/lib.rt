@@ -17,6 +17,7 @@ pub mod moving;
 pub mod starting;
 pub mod steady;
 pub mod theorems;
+pub mod writing;
 
 pub use errors::{MountError, Unmounted};
 use flash_model::{FlashFault, PAGE_SLOTS, SLOT_BYTES};

@@ -2,7 +2,12 @@
 
 ghost use Rattle.std.specs.Prelude.{length, false, ◌≡◌, ◌+◌, ◌-◌, ◌*◌, ◌<◌, ◌≤◌, ◌^◌, ℕ, IfOk, IfErr, IsOk};
 ghost use Rattle.steady_flash.specs.Healthy.{IsRefusal, IsRefused};
+ghost use Rattle.steady_flash.specs.Cells.{erased};
+ghost use Rattle.steady_flash.specs.Marked.{Same, OnePlace, OnePageOfPlaces};
+ghost use Rattle.steady_flash.specs.Claims.{IsErasedMarks, IsOpenTold, IsSameOpen};
 ghost use Rattle.steady_flash.specs.Layout.{held_at, IsServed, IsPlaced, IsLaidOut};
+ghost use Rattle.steady_flash.specs.Shown.{IsSettled};
+ghost use Rattle.steady_flash.specs.Told.{IsFoundTold};
 
 use crate::layout::Layout;
 use crate::marks::{OPEN, Place, ZEROS, claim, claim_bytes, done, done_bytes, read_word};
@@ -16,6 +21,7 @@ pub fn take_over<F: MarkedFlash>(flash: &mut F) -> Result<Layout, MountError>
     ensures same_size { F.size flash.new ≡ F.size flash.old }
     ensures laid_out { IfOk result (λ layout. IsLaidOut (F.size flash.old) layout) }
     ensures healthy { F.is_healthy flash.old → F.is_healthy flash.new × IfErr result IsRefusal }
+    ensures settled { IsFoundTold (F.size flash.old) (F.marks flash.old) (F.slots flash.old) ((F.size flash.old).pages - 1) → IfOk result (λ layout. IsSettled (F.slots flash.new) layout) }
 {
     match start(flash) {
         Err(MountError::Unformatted) => make(flash, true),
@@ -28,6 +34,7 @@ pub fn format<F: MarkedFlash>(flash: &mut F) -> Result<Layout, MountError>
     ensures same_size { F.size flash.new ≡ F.size flash.old }
     ensures laid_out { IfOk result (λ layout. IsLaidOut (F.size flash.old) layout) }
     ensures healthy { F.is_healthy flash.old → F.is_healthy flash.new × IfErr result IsRefusal }
+    ensures settled { IfOk result (λ layout. IsSettled (F.slots flash.new) layout) }
 {
     match start(flash) {
         Ok(layout) => erase_each(flash, layout),
@@ -45,6 +52,7 @@ fn erase_each<F: MarkedFlash>(flash: &mut F, layout: Layout) -> Result<Layout, M
     ensures same_size { F.size flash.new ≡ F.size flash.old }
     ensures laid_out { IfOk result (λ layout. IsLaidOut (F.size flash.old) layout) }
     ensures healthy { F.is_healthy flash.old → F.is_healthy flash.new × IfErr result IsRefusal }
+    ensures settled { IfOk result (λ layout. IsSettled (F.slots flash.new) layout) }
 {
     let mut layout = layout;
     if is_worn(&layout) {
@@ -83,6 +91,7 @@ fn make<F: MarkedFlash>(flash: &mut F, keeps: bool) -> Result<Layout, MountError
     ensures same_size { F.size flash.new ≡ F.size flash.old }
     ensures laid_out { IfOk result (λ layout. IsLaidOut (F.size flash.old) layout) }
     ensures healthy { F.is_healthy flash.old → F.is_healthy flash.new × IfErr result IsRefusal }
+    ensures settled { IfOk result (λ layout. IsSettled (F.slots flash.new) layout) }
 {
     match make_pages(flash, keeps) {
         Ok(()) => start(flash),
@@ -94,6 +103,7 @@ fn make_pages<F: MarkedFlash>(flash: &mut F, keeps: bool) -> Result<(), Stop>
     requires { IsServed (F.size flash.old) ((F.size flash.old).pages - 1) }
     ensures same_size { F.size flash.new ≡ F.size flash.old }
     ensures healthy { F.is_healthy flash.old → IsOk result × F.is_healthy flash.new }
+    ensures told { IfOk result (λ _. IsFoundTold (F.size flash.old) (F.marks flash.new) (F.slots flash.new) ((F.size flash.old).pages - 1)) }
 {
     let pages = flash.pages() - 1;
     clear_claims(flash, pages - 1)?;
@@ -119,6 +129,7 @@ fn clear_claims<F: MarkedFlash>(flash: &mut F, at: usize) -> Result<(), Stop>
 fn erase_all_marks<F: MarkedFlash>(flash: &mut F) -> Result<(), Stop>
     ensures same_size { F.size flash.new ≡ F.size flash.old }
     ensures healthy { F.is_healthy flash.old → IsOk result × F.is_healthy flash.new }
+    ensures erased { IfOk result (λ _. (q : ℕ) → q < (F.size flash.old).pages → IsErasedMarks (F.marks flash.new) (F.size flash.old).triples q) }
 {
     for at in 0..flash.pages() {
         erase_marks(flash, at)?;
@@ -131,21 +142,37 @@ fn begin_pages<F: MarkedFlash>(flash: &mut F, pages: usize, keeps: bool) -> Resu
     requires { IsServed (F.size flash.old) pages }
     ensures same_size { F.size flash.new ≡ F.size flash.old }
     ensures healthy { F.is_healthy flash.old → IsOk result × F.is_healthy flash.new }
+    ensures told { ((q : ℕ) → q < pages → F.marks flash.old q 0 ≡ erased) → IfOk result (λ _. (q : ℕ) → q < pages → IsOpenTold (F.marks flash.new) (F.slots flash.new) q) }
+    ensures others { (q m : ℕ) → (m ≡ 0 → ⊥) → F.marks flash.new q m ≡ F.marks flash.old q m }
 {
     for at in 0..pages {
-        if keeps {
-            program_mark(flash, at, OPEN, ZEROS)?;
-        } else {
-            erase_slots(flash, at)?;
-        }
+        begin_page(flash, at, keeps)?;
     }
     Ok(())
+}
+
+fn begin_page<F: MarkedFlash>(flash: &mut F, at: usize, keeps: bool) -> Result<(), Stop>
+    requires { at < (F.size flash.old).pages }
+    ensures same_size { F.size flash.new ≡ F.size flash.old }
+    ensures healthy { F.is_healthy flash.old → IsOk result × F.is_healthy flash.new }
+    ensures told { F.marks flash.old at 0 ≡ erased → IfOk result (λ _. IsOpenTold (F.marks flash.new) (F.slots flash.new) at) }
+    ensures marks { OnePlace (F.marks flash.old) at 0 (F.marks flash.new) }
+    ensures slots { OnePageOfPlaces (F.slots flash.old) at (F.slots flash.new) }
+{
+    if keeps {
+        program_mark(flash, at, OPEN, ZEROS)
+    } else {
+        erase_slots(flash, at)
+    }
 }
 
 fn claim_pages<F: MarkedFlash>(flash: &mut F, pages: usize) -> Result<(), Stop>
     requires { IsServed (F.size flash.old) pages }
     ensures same_size { F.size flash.new ≡ F.size flash.old }
     ensures healthy { F.is_healthy flash.old → IsOk result × F.is_healthy flash.new }
+    ensures slots { Same (F.slots flash.old) (F.slots flash.new) }
+    ensures opened { IsSameOpen (F.marks flash.old) (F.marks flash.new) }
+    ensures others { (q m : ℕ) → pages ≤ q → F.marks flash.new q m ≡ F.marks flash.old q m }
 {
     for page in 0..pages {
         program_mark(
@@ -162,6 +189,9 @@ fn finish_pages<F: MarkedFlash>(flash: &mut F, pages: usize) -> Result<(), Stop>
     requires { IsServed (F.size flash.old) pages }
     ensures same_size { F.size flash.new ≡ F.size flash.old }
     ensures healthy { F.is_healthy flash.old → IsOk result × F.is_healthy flash.new }
+    ensures slots { Same (F.slots flash.old) (F.slots flash.new) }
+    ensures opened { IsSameOpen (F.marks flash.old) (F.marks flash.new) }
+    ensures others { (q m : ℕ) → pages ≤ q → F.marks flash.new q m ≡ F.marks flash.old q m }
 {
     for page in 0..pages {
         program_mark(flash, page, done(0), done_bytes(Place { pages, at: page }))?;

@@ -5,11 +5,13 @@ ghost use Rattle.steady_flash.specs.Healthy.{IsRefusal, IsRefused};
 ghost use Rattle.steady_flash.specs.Claims.{IsClaim, IsClaimed, IsFound, IsFoundTo, IsTaken, IsKeptOr, IsOpenTold, IsSettledPage, IsSameOpen, IsUntouched, IsOurs, IsUnheld, HasRoom, IsRaised};
 ghost use Rattle.steady_flash.specs.Marked.{Size, Same};
 ghost use Rattle.steady_flash.specs.Layout.{held_at, IsServed, IsPlaced, IsLaidOut};
+ghost use Rattle.steady_flash.specs.Shown.{IsSettled};
+ghost use Rattle.steady_flash.specs.Told.{IsFoundTold, IsReadTo, MayBeFound};
 
 use crate::layout::{Held, Layout, MOST_PAGES, NOWHERE};
 use crate::making::why_not_found;
 use crate::marks::{BLANK, OPEN, Word, about, claim, done, done_bytes, read_word};
-use crate::moving::{Stop, TRIES, bump, move_page};
+use crate::moving::{Stop, bump, move_page};
 use crate::{MarkedFlash, MountError};
 use flash_model::SLOT_BYTES;
 
@@ -19,13 +21,14 @@ const LEAST_TRIPLES: usize = 8;
 /// The most triples of marks of a page.
 const MOST_TRIPLES: usize = 80;
 
-/// A start; behind a fault it begins anew.
+/// A start.
 pub fn start<F: MarkedFlash>(flash: &mut F) -> Result<Layout, MountError>
     ensures served { result ≢ Err MountError.PageCount → result ≢ Err MountError.Triples → IsServed (F.size flash.old) ((F.size flash.old).pages - 1) }
     ensures same_size { F.size flash.new ≡ F.size flash.old }
     ensures laid_out { IfOk result (λ layout. IsLaidOut (F.size flash.old) layout) }
     ensures healthy { F.is_healthy flash.old → F.is_healthy flash.new × IfErr result IsRefusal }
-    ensures settled { F.is_healthy flash.old → (before : Layout) → IsClaimed (F.size flash.old) (F.marks flash.old) before → IfOk result (λ layout. (layout.pages ≡ before.pages) × ((p : ℕ) → p < before.pages → IsOpenTold (F.marks flash.old) (F.slots flash.old) (held_at before.held p).page → IsSettledPage (F.slots flash.old) (held_at before.held p).page (F.slots flash.new) layout p)) }
+    ensures settled { (before : Layout) → IsClaimed (F.size flash.old) (F.marks flash.old) before → IfOk result (λ layout. (layout.pages ≡ before.pages) × ((p : ℕ) → p < before.pages → IsOpenTold (F.marks flash.old) (F.slots flash.old) (held_at before.held p).page → IsSettledPage (F.slots flash.old) (held_at before.held p).page (F.slots flash.new) layout p)) }
+    ensures told { IsFoundTold (F.size flash.old) (F.marks flash.old) (F.slots flash.old) ((F.size flash.old).pages - 1) → IfOk result (λ layout. IsSettled (F.slots flash.new) layout) }
     ensures complete { F.is_healthy flash.old → (before : Layout) → IsClaimed (F.size flash.old) (F.marks flash.old) before → IsOurs (F.size flash.old) (F.marks flash.old) before.pages → ((p : ℕ) → p < before.pages → HasRoom (F.size flash.old).triples (held_at before.held p)) → IsOk result }
 {
     let count = flash.pages();
@@ -36,14 +39,11 @@ pub fn start<F: MarkedFlash>(flash: &mut F) -> Result<Layout, MountError>
     if triples < LEAST_TRIPLES || triples > MOST_TRIPLES {
         return Err(MountError::Triples);
     }
-    for _tried in 0..TRIES {
-        match settle_all(flash, count - 1) {
-            Ok(layout) => return Ok(layout),
-            Err(Stop::Named(why)) => return Err(why),
-            Err(_) => {}
-        }
+    match settle_all(flash, count - 1) {
+        Ok(layout) => Ok(layout),
+        Err(Stop::Named(why)) => Err(why),
+        Err(_) => Err(MountError::Fault),
     }
-    Err(MountError::Fault)
 }
 
 /// All pages are bumped before any is settled: an erase in between could leave a claim that a start takes for the greatest.
@@ -53,6 +53,7 @@ fn settle_all<F: MarkedFlash>(flash: &mut F, pages: usize) -> Result<Layout, Sto
     ensures laid_out { IfOk result (λ layout. IsLaidOut (F.size flash.old) layout) }
     ensures healthy { F.is_healthy flash.old → F.is_healthy flash.new × IfErr result IsRefused }
     ensures settled { (before : Layout) → IsClaimed (F.size flash.old) (F.marks flash.old) before → before.pages ≡ pages → IfOk result (λ layout. (layout.pages ≡ pages) × ((p : ℕ) → p < before.pages → IsOpenTold (F.marks flash.old) (F.slots flash.old) (held_at before.held p).page → IsSettledPage (F.slots flash.old) (held_at before.held p).page (F.slots flash.new) layout p)) }
+    ensures told { IsFoundTold (F.size flash.old) (F.marks flash.old) (F.slots flash.old) pages → IfOk result (λ layout. IsSettled (F.slots flash.new) layout) }
     ensures complete { F.is_healthy flash.old → (before : Layout) → IsClaimed (F.size flash.old) (F.marks flash.old) before → before.pages ≡ pages → IsOurs (F.size flash.old) (F.marks flash.old) pages → ((p : ℕ) → p < before.pages → HasRoom (F.size flash.old).triples (held_at before.held p)) → IsOk result }
 {
     let mut layout = find(flash, pages)?;
@@ -156,6 +157,7 @@ fn find<F: MarkedFlash>(flash: &F, pages: usize) -> Result<Layout, Stop>
     ensures laid_out { IfOk result (λ layout. IsLaidOut (F.size flash.now) layout) }
     ensures healthy { F.is_healthy flash.now → IfErr result IsRefused }
     ensures found { (before : Layout) → IsClaimed (F.size flash.now) (F.marks flash.now) before → before.pages ≡ pages → IfOk result (λ layout. IsFound before layout) }
+    ensures read { IfOk result (λ layout. (layout.pages ≡ pages) × MayBeFound (F.size flash.now) (F.marks flash.now) layout) }
     ensures complete { F.is_healthy flash.now → (before : Layout) → IsClaimed (F.size flash.now) (F.marks flash.now) before → before.pages ≡ pages → IsOurs (F.size flash.now) (F.marks flash.now) pages → IsOk result }
 {
     let mut layout = Layout {
@@ -181,6 +183,7 @@ fn find_claims<F: MarkedFlash>(flash: &F, layout: &mut Layout) -> Result<(), Sto
     ensures same_pages { layout.new.pages ≡ layout.old.pages }
     ensures healthy { F.is_healthy flash.now → IfErr result IsRefused }
     ensures found { (before : Layout) → IsClaimed (F.size flash.now) (F.marks flash.now) before → IsFoundTo before layout.old 0 0 → IfOk result (λ _. IsFoundTo before layout.new (layout.old.pages + 1) 0) }
+    ensures read { IsReadTo (F.size flash.now).triples (F.marks flash.now) layout.old 0 0 → IfOk result (λ _. IsReadTo (F.size flash.now).triples (F.marks flash.now) layout.new (layout.old.pages + 1) 0) }
     ensures ours { IsOurs (F.size flash.now) (F.marks flash.now) layout.old.pages → IsOk result }
 {
     for at in 0..flash.pages() {
@@ -196,6 +199,7 @@ fn find_on<F: MarkedFlash>(flash: &F, layout: &mut Layout, at: usize) -> Result<
     ensures same_pages { layout.new.pages ≡ layout.old.pages }
     ensures healthy { F.is_healthy flash.now → IfErr result IsRefused }
     ensures found { (before : Layout) → IsClaimed (F.size flash.now) (F.marks flash.now) before → IsFoundTo before layout.old at 0 → IfOk result (λ _. IsFoundTo before layout.new at (F.size flash.now).triples) }
+    ensures read { IsReadTo (F.size flash.now).triples (F.marks flash.now) layout.old at 0 → IfOk result (λ _. IsReadTo (F.size flash.now).triples (F.marks flash.now) layout.new at (F.size flash.now).triples) }
     ensures ours { IsOurs (F.size flash.now) (F.marks flash.now) layout.old.pages → IsOk result }
 {
     for index in 0..flash.triples() {

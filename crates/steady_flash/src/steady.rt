@@ -1,26 +1,21 @@
 //! The adapter: a flash that reads the same each time.
 
-ghost use Rattle.std.specs.Prelude.{◌≡◌, true, ◌+◌, ◌<◌, ◌≤◌, ◌^◌, ℕ, ◌⊎◌, IfOk, IfErr, IsOk, IsTrue, false, MatchResult, Ok, Err, slice_index, bit_and};
+ghost use Rattle.std.specs.Prelude.{◌≡◌, true, ◌+◌, ◌-◌, ◌%◌, ◌<◌, ◌≤◌, ◌^◌, ℕ, IfOk, IfErr, IsOk, IsTrue, is_ok, if◌then◌else◌, false, MatchResult, Ok, Err, Some, None};
 ghost use Rattle.steady_flash.specs.Healthy.{IsRefusal};
-ghost use Rattle.shapes.specs.Shapes.{Bytes};
-ghost use Rattle.flash_model.specs.Image.{slot_at};
 ghost use Rattle.flash_model.specs.Operations.{Programs, MayProgram, Erases, MayErase};
-ghost use Rattle.steady_flash.specs.Cells.{IsEight, blank};
-ghost use Rattle.steady_flash.specs.Marked.{Same};
-ghost use Rattle.steady_flash.specs.Layout.{held_at, IsLaidOut};
-ghost use Rattle.steady_flash.specs.Moves.{IsTorn};
-ghost use Rattle.steady_flash.specs.Shown.{shown, image_of, IsSettled, IsSettledBut, IsKept, IsChanged, IsTornInto, IsReadImage};
-ghost use Rattle.steady_flash.specs.Claims.{IsClaimed, IsOpenTold, IsOurs, HasRoom};
+ghost use Rattle.steady_flash.specs.Layout.{held_at, IsLaidOut, LastsFor};
+ghost use Rattle.steady_flash.specs.Shown.{image_of, image_as, read_as, IsSettled, IsSettledBeside, IsReadImage};
+ghost use Rattle.steady_flash.specs.Claims.{IsClaimed, IsNoGreater, IsOpenTold, IsOurs, HasRoom};
+ghost use Rattle.steady_flash.specs.Told.{IsFoundTold};
 
-use crate::layout::Layout;
+use crate::layout::{Doubt, Layout};
 use crate::making::{format, take_over};
-use crate::marks::{BLANK, OPEN, ZEROS};
-use crate::moving::{
-    Changed, LAST_WRITTEN, Stop, TRIES, erase_page, move_page, program_mark, program_slot,
-};
+use crate::marks::BLANK;
+use crate::moving::{LAST_WRITTEN, Stop, erase_page};
 use crate::starting::start;
+use crate::writing::{Failed, write};
 use crate::{MarkedFlash, MountError, Unmounted};
-use flash_model::{FlashFault, PAGE_SLOTS, SLOT_BYTES};
+use flash_model::{FlashFault, NorFlash, PAGE_SLOTS, SLOT_BYTES};
 
 /// What a slot reads as where there is none: neither free nor a word.
 pub const NO_SLOT: [u8; SLOT_BYTES] = [255, 255, 255, 127, 255, 255, 255, 255];
@@ -31,9 +26,9 @@ pub const NO_SLOT: [u8; SLOT_BYTES] = [255, 255, 255, 127, 255, 255, 255, 255];
 /// A start finds each page as it was before the operation that a power loss came into, behind it, or torn as `NorFlash` says; from
 /// then on it reads the same each time. A start that is cut is made again.
 ///
-/// Proved (clauses of the calls): no call panics, and each ends. Where no slot has a cell in doubt, a session reads and writes what
-/// `NorFlash` says. A start whose operations are whole leaves no such cell, if for each page the greatest claim that was begun is firm.
-/// On a healthy flash a start, a program and an erase succeed, until marks or numbers end.
+/// Proved (clauses of the calls): no call panics, and each ends. Between two starts it does what `NorFlash` says; once it is given up
+/// it reads on, and each operation fails. A start shows what the cells may have read as, if for each page the greatest claim that was
+/// begun is firm. On a healthy flash a start, a program and an erase succeed, until marks or numbers end.
 ///
 /// What power losses leave of marks, and a cut start, is **tested, not proved**, under these premises:
 ///
@@ -90,7 +85,11 @@ pub struct SteadyFlash<F: MarkedFlash + Drop> {
     flash: F,
     layout: Layout,
     is_lost: bool,
+    in_doubt: Option<Doubt>,
+    operations: u64,
+    faults: u64,
     ghost laid_out: { IsLaidOut (F.size flash) layout },
+    ghost settled: { IsSettledBeside (F.slots flash) layout in_doubt },
 }
 
 impl<F: MarkedFlash + Drop> SteadyFlash<F> {
@@ -100,8 +99,9 @@ impl<F: MarkedFlash + Drop> SteadyFlash<F> {
     ///
     /// `Unmounted` with the flash and the reason ([`MountError`]).
     pub fn mount(flash: F) -> Result<SteadyFlash<F>, Unmounted<F>>
+        requires told { IsFoundTold (F.size flash) (F.marks flash) (F.slots flash) ((F.size flash).pages - 1) }
         ensures complete { F.is_healthy flash → (before : Layout) → IsClaimed (F.size flash) (F.marks flash) before → IsOurs (F.size flash) (F.marks flash) before.pages → ((p : ℕ) → p < before.pages → HasRoom (F.size flash).triples (held_at before.held p)) → IsOk result }
-        ensures settled { F.is_healthy flash → (before : Layout) → IsClaimed (F.size flash) (F.marks flash) before → ((p : ℕ) → p < before.pages → IsOpenTold (F.marks flash) (F.slots flash) (held_at before.held p).page)
+        ensures settled { (before : Layout) → IsClaimed (F.size flash) (F.marks flash) before → ((p : ℕ) → p < before.pages → IsOpenTold (F.marks flash) (F.slots flash) (held_at before.held p).page)
             → IfOk result (λ steady. IsSettled (F.slots steady.flash) steady.layout × IsReadImage (F.slots flash) before (image_of (F.slots steady.flash) steady.layout)) }
         ensures healthy { F.is_healthy flash → MatchResult result (λ steady. F.is_healthy steady.flash × (steady.is_lost ≡ false)) (λ unmounted. F.is_healthy unmounted.flash × IsRefusal unmounted.why) }
     {
@@ -121,6 +121,7 @@ impl<F: MarkedFlash + Drop> SteadyFlash<F> {
     /// `Unmounted` with the flash and the reason. A [`Damaged`](MountError::Damaged) flash, and one of
     /// [another geometry](MountError::OtherGeometry), is refused as it is.
     pub fn take_over(flash: F) -> Result<SteadyFlash<F>, Unmounted<F>>
+        requires told { IsFoundTold (F.size flash) (F.marks flash) (F.slots flash) ((F.size flash).pages - 1) }
         ensures healthy { F.is_healthy flash → MatchResult result (λ steady. F.is_healthy steady.flash × (steady.is_lost ≡ false)) (λ unmounted. F.is_healthy unmounted.flash × IsRefusal unmounted.why) }
     {
         let mut flash = flash;
@@ -146,14 +147,18 @@ impl<F: MarkedFlash + Drop> SteadyFlash<F> {
     }
 
     fn of(flash: F, started: Result<Layout, MountError>) -> Result<SteadyFlash<F>, Unmounted<F>>
-        requires { IfOk started (λ layout. IsLaidOut (F.size flash) layout) }
+        requires { IfOk started (λ layout. IsLaidOut (F.size flash) layout × IsSettled (F.slots flash) layout) }
         ensures same { MatchResult result (λ steady. (steady.flash ≡ flash) × (steady.is_lost ≡ false) × (started ≡ Ok steady.layout)) (λ unmounted. (unmounted.flash ≡ flash) × (started ≡ Err unmounted.why)) }
+        ensures sound { IfOk result (λ steady. (steady.in_doubt ≡ None) × (steady.operations ≡ 0) × (steady.faults ≡ 0)) }
     {
         match started {
             Ok(layout) => Ok(SteadyFlash {
                 flash,
                 layout,
                 is_lost: false,
+                in_doubt: None,
+                operations: 0,
+                faults: 0,
             }),
             Err(why) => Err(Unmounted { flash, why }),
         }
@@ -174,67 +179,67 @@ impl<F: MarkedFlash + Drop> SteadyFlash<F> {
         self.flash
     }
 
-    /// Returns how many pages the log has.
-    pub fn pages(&self) -> usize
-        ensures { result ≡ self.now.layout.pages }
-    {
-        self.layout.pages
-    }
-
     /// Reads a slot. One that is not there reads as no word.
-    pub fn read_slot(&self, page: usize, slot: usize) -> [u8; SLOT_BYTES]
-        ensures { IsSettled (F.slots self.now.flash) self.now.layout → page < self.now.layout.pages → slot < PAGE_SLOTS → result ≡ slot_at (image_of (F.slots self.now.flash) self.now.layout) page slot }
+    fn read(&self, page: usize, slot: usize) -> [u8; SLOT_BYTES]
+        ensures { page < self.now.layout.pages → slot < PAGE_SLOTS → result ≡ read_as (F.slots self.now.flash) self.now.layout self.now.in_doubt page slot }
     {
-        if page < self.layout.pages && slot < PAGE_SLOTS {
-            self.held_slot(page, slot)
-        } else {
-            NO_SLOT
+        if page >= self.layout.pages || slot >= PAGE_SLOTS {
+            return NO_SLOT;
         }
+        if self.in_doubt == Some(Doubt { page, slot }) {
+            return BLANK;
+        }
+        self.flash
+            .read_slot(self.layout.held[page].page as usize, slot)
     }
 
-    /// Clears the bits of a slot that are clear in `bytes`.
-    ///
-    /// # Errors
-    ///
-    /// `FlashFault` as [`NorFlash`](crate::NorFlash) says.
-    pub fn program_slot(
+    /// Programs a slot that is there, unless the flash was given up or has come to its end.
+    fn program(
         &mut self,
         page: usize,
         slot: usize,
         bytes: [u8; SLOT_BYTES],
     ) -> Result<(), FlashFault>
-        ensures outcome { IsSettled (F.slots self.old.flash) self.old.layout → page < self.old.layout.pages → slot < PAGE_SLOTS → MatchResult result
-            (λ _. IsSettled (F.slots self.new.flash) self.new.layout × Programs (image_of (F.slots self.old.flash) self.old.layout) page slot bytes (image_of (F.slots self.new.flash) self.new.layout))
-            (λ _. (self.new.is_lost ≡ true) ⊎ (IsSettled (F.slots self.new.flash) self.new.layout × MayProgram (image_of (F.slots self.old.flash) self.old.layout) page slot bytes (image_of (F.slots self.new.flash) self.new.layout))) }
+        ensures outcome { page < self.old.layout.pages → slot < PAGE_SLOTS → MatchResult result
+            (λ _. Programs (image_as (F.slots self.old.flash) self.old.layout self.old.in_doubt) page slot bytes (image_as (F.slots self.new.flash) self.new.layout self.new.in_doubt))
+            (λ _. MayProgram (image_as (F.slots self.old.flash) self.old.layout self.old.in_doubt) page slot bytes (image_as (F.slots self.new.flash) self.new.layout self.new.in_doubt)) }
+        ensures same_size { F.size self.new.flash ≡ F.size self.old.flash }
         ensures same_pages { self.new.layout.pages ≡ self.old.layout.pages }
-        ensures healthy { F.is_healthy self.old.flash → self.old.is_lost ≡ false → page < self.old.layout.pages → slot < PAGE_SLOTS → (held_at self.old.layout.held page).number ≤ LAST_WRITTEN → IsOk result × F.is_healthy self.new.flash × (self.new.is_lost ≡ false) }
+        ensures same_counts { (self.new.operations ≡ self.old.operations) × (self.new.faults ≡ self.old.faults) }
+        ensures numbers { IsNoGreater self.old.layout self.new.layout }
+        ensures healthy { F.is_healthy self.old.flash → self.old.is_lost ≡ false → self.old.in_doubt ≡ None → page < self.old.layout.pages → slot < PAGE_SLOTS → (held_at self.old.layout.held page).number ≤ LAST_WRITTEN → IsOk result × F.is_healthy self.new.flash × (self.new.is_lost ≡ false) × (self.new.in_doubt ≡ None) }
         ensures claimed { IsClaimed (F.size self.old.flash) (F.marks self.old.flash) self.old.layout → IfOk result (λ _. IsClaimed (F.size self.new.flash) (F.marks self.new.flash) self.new.layout) }
     {
         if !self.takes(page, slot) {
             return Err(FlashFault);
         }
-        let held = self.held_slot(page, slot);
-        let after = both(held, bytes);
-        if after == held {
-            return Ok(());
+        match write(
+            &mut self.flash,
+            &mut self.layout,
+            &mut self.in_doubt,
+            page,
+            slot,
+            bytes,
+        ) {
+            Ok(()) => Ok(()),
+            Err(Failed::Torn) => Err(FlashFault),
+            Err(_) => {
+                self.is_lost = true;
+                Err(FlashFault)
+            }
         }
-        if held != BLANK {
-            return self.change(page, slot, after);
-        }
-        self.fill(page, slot, bytes)
     }
 
-    /// Sets every bit of a page.
-    ///
-    /// # Errors
-    ///
-    /// `FlashFault` as [`NorFlash`](crate::NorFlash) says.
-    pub fn erase_page(&mut self, page: usize) -> Result<(), FlashFault>
-        ensures outcome { IsSettled (F.slots self.old.flash) self.old.layout → page < self.old.layout.pages → MatchResult result
-            (λ _. IsSettled (F.slots self.new.flash) self.new.layout × Erases (image_of (F.slots self.old.flash) self.old.layout) page (image_of (F.slots self.new.flash) self.new.layout))
-            (λ _. (self.new.is_lost ≡ true) ⊎ (IsSettled (F.slots self.new.flash) self.new.layout × MayErase (image_of (F.slots self.old.flash) self.old.layout) page (image_of (F.slots self.new.flash) self.new.layout))) }
+    /// Erases a page that is there, unless the flash was given up or has come to its end.
+    fn erase(&mut self, page: usize) -> Result<(), FlashFault>
+        ensures outcome { page < self.old.layout.pages → MatchResult result
+            (λ _. Erases (image_as (F.slots self.old.flash) self.old.layout self.old.in_doubt) page (image_as (F.slots self.new.flash) self.new.layout self.new.in_doubt))
+            (λ _. MayErase (image_as (F.slots self.old.flash) self.old.layout self.old.in_doubt) page (image_as (F.slots self.new.flash) self.new.layout self.new.in_doubt)) }
+        ensures same_size { F.size self.new.flash ≡ F.size self.old.flash }
         ensures same_pages { self.new.layout.pages ≡ self.old.layout.pages }
-        ensures healthy { F.is_healthy self.old.flash → self.old.is_lost ≡ false → page < self.old.layout.pages → (held_at self.old.layout.held page).number ≤ LAST_WRITTEN → IsOk result × F.is_healthy self.new.flash × (self.new.is_lost ≡ false) }
+        ensures same_counts { (self.new.operations ≡ self.old.operations) × (self.new.faults ≡ self.old.faults) }
+        ensures numbers { IsNoGreater self.old.layout self.new.layout }
+        ensures healthy { F.is_healthy self.old.flash → self.old.is_lost ≡ false → self.old.in_doubt ≡ None → page < self.old.layout.pages → (held_at self.old.layout.held page).number ≤ LAST_WRITTEN → IsOk result × F.is_healthy self.new.flash × (self.new.is_lost ≡ false) × (self.new.in_doubt ≡ None) }
         ensures claimed { IsClaimed (F.size self.old.flash) (F.marks self.old.flash) self.old.layout → IfOk result (λ _. IsClaimed (F.size self.new.flash) (F.marks self.new.flash) self.new.layout) }
     {
         if !self.takes(page, 0) {
@@ -242,138 +247,70 @@ impl<F: MarkedFlash + Drop> SteadyFlash<F> {
         }
         match erase_page(&mut self.flash, &mut self.layout, page) {
             Ok(()) => Ok(()),
-            Err(Stop::InDoubt) => Err(self.give_up()),
-            Err(_) => Err(FlashFault),
-        }
-    }
-
-    /// Reads a slot that is there.
-    fn held_slot(&self, page: usize, slot: usize) -> [u8; SLOT_BYTES]
-        requires in_pages { page < self.now.layout.pages }
-        requires in_page { slot < PAGE_SLOTS }
-        ensures { IsSettled (F.slots self.now.flash) self.now.layout → result ≡ shown (F.slots self.now.flash) self.now.layout page slot }
-    {
-        self.flash
-            .read_slot(self.layout.held[page].page as usize, slot)
-    }
-
-    /// Moves a page with other bytes in one slot.
-    fn change(
-        &mut self,
-        page: usize,
-        slot: usize,
-        bytes: [u8; SLOT_BYTES],
-    ) -> Result<(), FlashFault>
-        requires in_pages { page < self.old.layout.pages }
-        requires in_page { slot < PAGE_SLOTS }
-        ensures outcome { IsSettled (F.slots self.old.flash) self.old.layout → MatchResult result
-            (λ _. IsChanged (F.slots self.old.flash) self.old.layout page slot bytes (F.slots self.new.flash) self.new.layout)
-            (λ _. (self.new.is_lost ≡ true) ⊎ IsKept (F.slots self.old.flash) self.old.layout (F.slots self.new.flash) self.new.layout) }
-        ensures same_pages { self.new.layout.pages ≡ self.old.layout.pages }
-        ensures healthy { F.is_healthy self.old.flash → self.old.is_lost ≡ false → (held_at self.old.layout.held page).number ≤ LAST_WRITTEN → IsOk result × F.is_healthy self.new.flash × (self.new.is_lost ≡ false) }
-        ensures claimed { IsClaimed (F.size self.old.flash) (F.marks self.old.flash) self.old.layout → IfOk result (λ _. IsClaimed (F.size self.new.flash) (F.marks self.new.flash) self.new.layout) }
-    {
-        let change = Changed { slot, bytes };
-        match move_page(&mut self.flash, &mut self.layout, page, Some(change)) {
-            Ok(()) => Ok(()),
-            Err(Stop::InDoubt) => Err(self.give_up()),
-            Err(_) => Err(FlashFault),
-        }
-    }
-
-    /// Programs a slot that is blank where it stands.
-    fn fill(&mut self, page: usize, slot: usize, bytes: [u8; SLOT_BYTES]) -> Result<(), FlashFault>
-        requires in_pages { page < self.old.layout.pages }
-        requires in_page { slot < PAGE_SLOTS }
-        ensures outcome { IsSettled (F.slots self.old.flash) self.old.layout → shown (F.slots self.old.flash) self.old.layout page slot ≡ blank → (bytes ≡ blank → ⊥) → MatchResult result
-            (λ _. IsChanged (F.slots self.old.flash) self.old.layout page slot bytes (F.slots self.new.flash) self.new.layout)
-            (λ _. (self.new.is_lost ≡ true) ⊎ IsTornInto (F.slots self.old.flash) self.old.layout page slot bytes (F.slots self.new.flash) self.new.layout) }
-        ensures same_pages { self.new.layout.pages ≡ self.old.layout.pages }
-        ensures healthy { F.is_healthy self.old.flash → self.old.is_lost ≡ false → IsOk result × F.is_healthy self.new.flash × (self.new.is_lost ≡ false) }
-        ensures claimed { IsClaimed (F.size self.old.flash) (F.marks self.old.flash) self.old.layout → IfOk result (λ _. IsClaimed (F.size self.new.flash) (F.marks self.new.flash) self.new.layout) }
-    {
-        if self.open(page).is_err() {
-            return Err(FlashFault);
-        }
-        let at = self.layout.held[page].page as usize;
-        match program_slot(&mut self.flash, at, slot, bytes) {
-            Ok(()) => Ok(()),
-            Err(_) => Err(self.settle_fault(page, slot)),
-        }
-    }
-
-    /// Says that slots of a page are programmed from here on: its next start settles it.
-    fn open(&mut self, page: usize) -> Result<(), Stop>
-        requires { page < self.old.layout.pages }
-        ensures slots { Same (F.slots self.old.flash) (F.slots self.new.flash) }
-        ensures same_pages { self.new.layout.pages ≡ self.old.layout.pages }
-        ensures same_places { (p : ℕ) → (held_at self.new.layout.held p).page ≡ (held_at self.old.layout.held p).page }
-        ensures healthy { F.is_healthy self.old.flash → self.old.is_lost ≡ false → IsOk result × F.is_healthy self.new.flash × (self.new.is_lost ≡ false) }
-        ensures claimed { IsClaimed (F.size self.old.flash) (F.marks self.old.flash) self.old.layout → IsClaimed (F.size self.new.flash) (F.marks self.new.flash) self.new.layout }
-    {
-        if self.layout.held[page].is_opened {
-            return Ok(());
-        }
-        program_mark(
-            &mut self.flash,
-            self.layout.held[page].page as usize,
-            OPEN,
-            ZEROS,
-        )?;
-        self.layout.held[page].is_opened = true;
-        Ok(())
-    }
-
-    /// Settles a slot that could not be programmed, as it reads once, before the fault is told.
-    fn settle_fault(&mut self, page: usize, slot: usize) -> FlashFault
-        requires in_pages { page < self.old.layout.pages }
-        requires in_page { slot < PAGE_SLOTS }
-        ensures outcome { (bytes : Bytes) → IsEight bytes → IsSettledBut (F.slots self.old.flash) self.old.layout page slot → IsTorn bytes (F.slots self.old.flash (held_at self.old.layout.held page).page slot)
-            → (self.new.is_lost ≡ true) ⊎ IsTornInto (F.slots self.old.flash) self.old.layout page slot bytes (F.slots self.new.flash) self.new.layout }
-        ensures same_pages { self.new.layout.pages ≡ self.old.layout.pages }
-    {
-        let read = self
-            .flash
-            .read_slot(self.layout.held[page].page as usize, slot);
-        let change = Changed { slot, bytes: read };
-        for _ in 0..TRIES {
-            match move_page(&mut self.flash, &mut self.layout, page, Some(change)) {
-                Ok(()) => return FlashFault,
-                Err(Stop::Fault) => {}
-                Err(_) => return self.give_up(),
+            Err(Stop::InDoubt) => {
+                self.is_lost = true;
+                self.flash.give_up();
+                Err(FlashFault)
             }
+            Err(_) => Err(FlashFault),
         }
-        self.give_up()
-    }
-
-    fn give_up(&mut self) -> FlashFault
-        ensures lost { self.new.is_lost ≡ true }
-        ensures same_layout { self.new.layout ≡ self.old.layout }
-    {
-        self.is_lost = true;
-        self.flash.give_up();
-        FlashFault
     }
 
     /// Whether an operation on this page may be made.
     fn takes(&self, page: usize, slot: usize) -> bool
-        ensures taken { IsTrue result → (page < self.now.layout.pages) × (slot < PAGE_SLOTS) }
-        ensures takes { page < self.now.layout.pages → slot < PAGE_SLOTS → self.now.is_lost ≡ false → (held_at self.now.layout.held page).number ≤ LAST_WRITTEN → IsTrue result }
+        ensures taken { IsTrue result → (page < self.now.layout.pages) × (slot < PAGE_SLOTS) × (self.now.in_doubt ≡ None) × (self.now.is_lost ≡ false) }
+        ensures takes { page < self.now.layout.pages → slot < PAGE_SLOTS → self.now.is_lost ≡ false → self.now.in_doubt ≡ None → (held_at self.now.layout.held page).number ≤ LAST_WRITTEN → IsTrue result }
     {
         page < self.layout.pages
             && slot < PAGE_SLOTS
             && !self.is_lost
+            && self.in_doubt.is_none()
             && self.layout.held[page].number <= LAST_WRITTEN
     }
 }
 
-/// The bits that are set in both.
-fn both(held: [u8; SLOT_BYTES], bytes: [u8; SLOT_BYTES]) -> [u8; SLOT_BYTES]
-    ensures { (k : ℕ) → k < 8 → slice_index result k ≡ bit_and (slice_index held k) (slice_index bytes k) }
-{
-    let mut after = held;
-    for k in 0..SLOT_BYTES {
-        after[k] &= bytes[k];
+impl<F: MarkedFlash + Drop> NorFlash for SteadyFlash<F> {
+    ghost image = { λ s. image_as (F.slots s.flash) s.layout s.in_doubt };
+
+    ghost operations = { λ s. s.operations };
+
+    ghost faults = { λ s. s.faults };
+
+    ghost takes_also = { λ s page slot bytes. Unit {0} };
+
+    ghost is_faultless = { λ s n. F.is_healthy s.flash × (s.is_lost ≡ false) × (s.in_doubt ≡ None) × LastsFor s.layout n };
+
+    // where no fault was counted, the claims that counted do
+    ghost operates = { λ old operation new. (F.size new.flash ≡ F.size old.flash) × (new.faults ≡ old.faults → IsClaimed (F.size old.flash) (F.marks old.flash) old.layout → IsClaimed (F.size new.flash) (F.marks new.flash) new.layout) };
+
+    fn pages(&self) -> usize {
+        self.layout.pages
     }
-    after
+
+    fn read_slot(&self, page: usize, slot: usize) -> [u8; SLOT_BYTES] {
+        self.read(page, slot)
+    }
+
+    fn program_slot(
+        &mut self,
+        page: usize,
+        slot: usize,
+        bytes: [u8; SLOT_BYTES],
+    ) -> Result<(), FlashFault> {
+        self.operations = self.operations.wrapping_add(1);
+        let done = self.program(page, slot, bytes);
+        if done.is_err() {
+            self.faults = self.faults.wrapping_add(1);
+        }
+        done
+    }
+
+    fn erase_page(&mut self, page: usize) -> Result<(), FlashFault> {
+        self.operations = self.operations.wrapping_add(1);
+        let done = self.erase(page);
+        if done.is_err() {
+            self.faults = self.faults.wrapping_add(1);
+        }
+        done
+    }
 }

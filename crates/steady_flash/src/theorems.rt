@@ -11,6 +11,7 @@ ghost use Rattle.steady_flash.specs.Marked.{Size, OnePlace};
 ghost use Rattle.steady_flash.specs.Layout.{held_at, IsLaidOut};
 ghost use Rattle.steady_flash.specs.Shown.{shown, image_of, IsSettled, IsReadImage};
 ghost use Rattle.steady_flash.specs.Claims.{IsOpenTold, IsClaimed};
+ghost use Rattle.steady_flash.specs.Told.{IsFoundTold};
 ghost use Rattle.steady_flash.specs.declared.layout.Layout.{Layout};
 
 /// What the cells read as behind a program of a blank slot that was torn, whatever its cells in doubt read as, is a torn program.
@@ -31,6 +32,11 @@ pub fn a_torn_program_is_told()
 /// With no cell in doubt there is one image to read.
 pub fn a_settled_flash_reads_as_shown()
     ensures { (slots : ℕ → ℕ → Written) (layout : Layout) (image : Bytes) → IsSettled slots layout → IsReadImage slots layout image → image ≡ image_of slots layout }
+{}
+
+/// Where claims count, and each page says whether it may have a cell in doubt, a flash may be mounted.
+pub fn a_claimed_flash_may_be_mounted()
+    ensures { (size : Size) (marks slots : ℕ → ℕ → Written) (before : Layout) → IsClaimed size marks before → ((p : ℕ) → p < before.pages → IsOpenTold marks slots (held_at before.held p).page) → IsFoundTold size marks slots before.pages }
 {}
 
 /// There is a flash on which claims count, so that what is said of starts speaks of some.

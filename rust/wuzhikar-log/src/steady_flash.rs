@@ -1,28 +1,9 @@
-//! A steady flash as the flash of a log, and the texts of its refusals. Written by hand.
+//! The texts of a steady flash's refusals. Written by hand.
 
 #[cfg(test)]
 mod tests;
 
-use crate::parts::flash_model::{FlashFault, NorFlash, SLOT_BYTES};
-use crate::parts::steady_flash::{MarkedFlash, MountError, SteadyFlash, Unmounted};
-
-impl<F: MarkedFlash> NorFlash for SteadyFlash<F> {
-    fn pages(&self) -> usize {
-        SteadyFlash::pages(self)
-    }
-
-    fn read_slot(&self, page: usize, slot: usize) -> [u8; SLOT_BYTES] {
-        SteadyFlash::read_slot(self, page, slot)
-    }
-
-    fn program_slot(&mut self, page: usize, slot: usize, bytes: [u8; SLOT_BYTES]) -> Result<(), FlashFault> {
-        SteadyFlash::program_slot(self, page, slot, bytes)
-    }
-
-    fn erase_page(&mut self, page: usize) -> Result<(), FlashFault> {
-        SteadyFlash::erase_page(self, page)
-    }
-}
+use crate::parts::steady_flash::{MountError, Unmounted};
 
 impl core::fmt::Display for MountError {
     fn fmt(&self, f: &mut core::fmt::Formatter<'_>) -> core::fmt::Result {

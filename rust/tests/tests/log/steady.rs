@@ -4,7 +4,7 @@ use std::fmt::Write;
 use std::fs;
 use std::path::Path;
 
-use wuzhikar_log::{FlashDriver, MarkedFlash, MarkedUnits, MountError, SteadyFlash};
+use wuzhikar_log::{FlashDriver, MarkedFlash, MarkedUnits, MountError, NorFlash, SteadyFlash};
 
 /// A chip in memory, with erase units of so many bytes, that counts what is written.
 #[derive(Clone, Debug)]

@@ -12,6 +12,7 @@ pub mod marks;
 pub mod moving;
 pub mod starting;
 pub mod steady;
+pub mod writing;
 
 pub use errors::{MountError, Unmounted};
 use crate::parts::flash_model::{FlashFault, PAGE_SLOTS, SLOT_BYTES};

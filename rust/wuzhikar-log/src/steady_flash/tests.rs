@@ -1,7 +1,7 @@
 //! What starts and calls do, also where the power is lost inside them; and what is refused.
 
 use crate::mend_pages;
-use crate::parts::flash_model::{FlashFault, PAGE_SLOTS, SLOT_BYTES};
+use crate::parts::flash_model::{FlashFault, NorFlash, PAGE_SLOTS, SLOT_BYTES};
 use crate::parts::steady_flash::marks::{BLANK, LAST_NUMBER, OPEN, Place, ZEROS, about, claim, claim_bytes, done};
 use crate::parts::steady_flash::moving::LAST_WRITTEN;
 use crate::parts::steady_flash::steady::NO_SLOT;

@@ -1,5 +1,6 @@
-use Rattle.std.proofs.Common.{rules, sym}
+use Rattle.std.proofs.Common.{rules, sym, true, ◌≡◌}
 use Rattle.steady_flash.proofs.Finding.{found_none, found_all, found_elsewhere, no_number, number_found, apart_found, unheld_found}
+use Rattle.steady_flash.proofs.Telling.{read_none, read_all}
 use Rattle.std.proofs.lemmas.Bool.{false≢true}
 use Rattle.steady_flash.proofs.starting.find.Goals as goal
 
@@ -16,3 +17,9 @@ returns-then-not-is_whole-clause-complete g c = λ h before k e o.
     let f = found_all _ _ before c.find_claims.new.layout c.args.pages k e (c.in_ok-find_claims.ensures.found before k (found_none _ _ before _ k (sym e) no_number)) in
     let whole = c.is_whole.ensures.whole (number_found _ _ before c.find_claims.new.layout k f) (apart_found _ _ before c.find_claims.new.layout k f) (unheld_found _ _ before c.find_claims.new.layout _ k f c.spare_of.ensures.free) in
     absurd (search rules)
+
+pub returns-clause-read : goal.returns-clause-read
+returns-clause-read g c =
+    let f = c.in_ok-find_claims.ensures.read (read_none _ _ _ no_number) in
+    let whole : c.is_whole.result ≡ true = search rules in
+    (c.find_claims.ensures.same_pages, read_all _ _ c.find_claims.new.layout c.spare_of.result c.args.pages c.requires.count f (c.is_whole.ensures.numbered whole))

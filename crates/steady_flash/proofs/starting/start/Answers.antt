@@ -2,19 +2,16 @@ use Rattle.std.proofs.Common.{rules, arith, ◌≡◌, ◌-◌}
 use Rattle.steady_flash.proofs.starting.start.Goals as goal
 
 pub returns-in-Ok-clause-settled : goal.returns-in-Ok-clause-settled
-returns-in-Ok-clause-settled g c = λ h before k.
-    let same = (c.loop-tried.invariant.healthy h).1 in
-    let settled = rw same at c.in-Ok.ensures.settled in
+returns-in-Ok-clause-settled g c = λ before k.
     let pages : before.pages ≡ c.pages-count.result - 1 = omega (arith, k.laid_out.placed.served.count) in
-    (rw pages (settled before k pages).0, (settled before k pages).1)
+    let settled = c.in-Ok.ensures.settled before k pages in
+    (rw pages settled.0, settled.1)
+
+pub returns-in-Ok-clause-told : goal.returns-in-Ok-clause-told
+returns-in-Ok-clause-told g c = λ told. c.in-Ok.ensures.told (rw c.pages-count.ensures.count told)
 
 pub returns-in-Err-Named-clause-complete : goal.returns-in-Err-Named-clause-complete
 returns-in-Err-Named-clause-complete g c = λ h before k o room.
-    let same = (c.loop-tried.invariant.healthy h).1 in
     let pages : before.pages ≡ c.pages-count.result - 1 = omega (arith, k.laid_out.placed.served.count) in
-    let complete = rw same at c.settle_all.ensures.complete in
-    let done = complete h before k pages (rw pages at o) room in
+    let done = c.settle_all.ensures.complete h before k pages (rw pages at o) room in
     absurd (search rules)
-
-pub returns-clause-complete : goal.returns-clause-complete
-returns-clause-complete g c = λ h before k o room. absurd (omega (arith, (c.loop-tried.invariant.healthy h).0))

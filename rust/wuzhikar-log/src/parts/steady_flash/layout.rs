@@ -34,6 +34,13 @@ pub struct Layout {
     pub spare: usize,
 }
 
+/// A slot of the log whose program was given up.
+#[derive(Clone, Copy, Debug, PartialEq, Eq)]
+pub struct Doubt {
+    pub page: usize,
+    pub slot: usize,
+}
+
 impl Layout {
     /// Where a page of the flash lies.
     pub fn place(&self, at: usize) -> Place {

@@ -92,13 +92,17 @@ fn erase_all_marks<F: MarkedFlash>(flash: &mut F) -> Result<(), Stop> {
 /// What the slots hold is settled by the start behind, or erased.
 fn begin_pages<F: MarkedFlash>(flash: &mut F, pages: usize, keeps: bool) -> Result<(), Stop> {
     for at in 0..pages {
-        if keeps {
-            program_mark(flash, at, OPEN, ZEROS)?;
-        } else {
-            erase_slots(flash, at)?;
-        }
+        begin_page(flash, at, keeps)?;
     }
     Ok(())
+}
+
+fn begin_page<F: MarkedFlash>(flash: &mut F, at: usize, keeps: bool) -> Result<(), Stop> {
+    if keeps {
+        program_mark(flash, at, OPEN, ZEROS)
+    } else {
+        erase_slots(flash, at)
+    }
 }
 
 fn claim_pages<F: MarkedFlash>(flash: &mut F, pages: usize) -> Result<(), Stop> {

@@ -4,7 +4,7 @@
 use crate::parts::steady_flash::layout::{Held, Layout, MOST_PAGES, NOWHERE};
 use crate::parts::steady_flash::making::why_not_found;
 use crate::parts::steady_flash::marks::{BLANK, OPEN, Word, about, claim, done, done_bytes, read_word};
-use crate::parts::steady_flash::moving::{Stop, TRIES, bump, move_page};
+use crate::parts::steady_flash::moving::{Stop, bump, move_page};
 use crate::parts::steady_flash::{MarkedFlash, MountError};
 use crate::parts::flash_model::SLOT_BYTES;
 
@@ -14,7 +14,7 @@ const LEAST_TRIPLES: usize = 8;
 /// The most triples of marks of a page.
 const MOST_TRIPLES: usize = 80;
 
-/// A start; behind a fault it begins anew.
+/// A start.
 pub fn start<F: MarkedFlash>(flash: &mut F) -> Result<Layout, MountError> {
     let count = flash.pages();
     if count < 3 || count > MOST_PAGES + 1 {
@@ -24,14 +24,11 @@ pub fn start<F: MarkedFlash>(flash: &mut F) -> Result<Layout, MountError> {
     if triples < LEAST_TRIPLES || triples > MOST_TRIPLES {
         return Err(MountError::Triples);
     }
-    for _tried in 0..TRIES {
-        match settle_all(flash, count - 1) {
-            Ok(layout) => return Ok(layout),
-            Err(Stop::Named(why)) => return Err(why),
-            Err(_) => {}
-        }
+    match settle_all(flash, count - 1) {
+        Ok(layout) => Ok(layout),
+        Err(Stop::Named(why)) => Err(why),
+        Err(_) => Err(MountError::Fault),
     }
-    Err(MountError::Fault)
 }
 
 /// All pages are bumped before any is settled: an erase in between could leave a claim that a start takes for the greatest.

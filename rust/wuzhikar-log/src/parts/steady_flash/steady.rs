@@ -1,15 +1,14 @@
 // Exported from crates/steady_flash/src/steady.rt by bin/export-rust. Edit that file instead.
 //! The adapter: a flash that reads the same each time.
 
-use crate::parts::steady_flash::layout::Layout;
+use crate::parts::steady_flash::layout::{Doubt, Layout};
 use crate::parts::steady_flash::making::{format, take_over};
-use crate::parts::steady_flash::marks::{BLANK, OPEN, ZEROS};
-use crate::parts::steady_flash::moving::{
-    Changed, LAST_WRITTEN, Stop, TRIES, erase_page, move_page, program_mark, program_slot,
-};
+use crate::parts::steady_flash::marks::BLANK;
+use crate::parts::steady_flash::moving::{LAST_WRITTEN, Stop, erase_page};
 use crate::parts::steady_flash::starting::start;
+use crate::parts::steady_flash::writing::{Failed, write};
 use crate::parts::steady_flash::{MarkedFlash, MountError, Unmounted};
-use crate::parts::flash_model::{FlashFault, PAGE_SLOTS, SLOT_BYTES};
+use crate::parts::flash_model::{FlashFault, NorFlash, PAGE_SLOTS, SLOT_BYTES};
 
 /// What a slot reads as where there is none: neither free nor a word.
 pub const NO_SLOT: [u8; SLOT_BYTES] = [255, 255, 255, 127, 255, 255, 255, 255];
@@ -20,9 +19,9 @@ pub const NO_SLOT: [u8; SLOT_BYTES] = [255, 255, 255, 127, 255, 255, 255, 255];
 /// A start finds each page as it was before the operation that a power loss came into, behind it, or torn as `NorFlash` says; from
 /// then on it reads the same each time. A start that is cut is made again.
 ///
-/// Proved (clauses of the calls): no call panics, and each ends. Where no slot has a cell in doubt, a session reads and writes what
-/// `NorFlash` says. A start whose operations are whole leaves no such cell, if for each page the greatest claim that was begun is firm.
-/// On a healthy flash a start, a program and an erase succeed, until marks or numbers end.
+/// Proved (clauses of the calls): no call panics, and each ends. Between two starts it does what `NorFlash` says; once it is given up
+/// it reads on, and each operation fails. A start shows what the cells may have read as, if for each page the greatest claim that was
+/// begun is firm. On a healthy flash a start, a program and an erase succeed, until marks or numbers end.
 ///
 /// What power losses leave of marks, and a cut start, is **tested, not proved**, under these premises:
 ///
@@ -79,9 +78,14 @@ pub struct SteadyFlash<F: MarkedFlash> {
     flash: F,
     layout: Layout,
     is_lost: bool,
+    in_doubt: Option<Doubt>,
+    operations: u64,
+    faults: u64,
 }
 
 impl<F: MarkedFlash> SteadyFlash<F> {
+    /// **Needs** a flash that nothing but a `SteadyFlash` wrote to since [`SteadyFlash::format`] made it, or one without marks. Nothing checks it.
+    ///
     /// Finds the pages of a flash, and settles what a power loss left in doubt. It erases nothing where a page is not found.
     ///
     /// # Errors
@@ -93,6 +97,8 @@ impl<F: MarkedFlash> SteadyFlash<F> {
         SteadyFlash::of(flash, started)
     }
 
+    /// **Needs** a flash that nothing but a `SteadyFlash` wrote to since [`SteadyFlash::format`] made it, or one without marks. Nothing checks it.
+    ///
     /// Mounts a flash; where it is [`Unformatted`](MountError::Unformatted), its first pages keep what they hold, and are this flash's
     /// from then on: those of a plain log at the same place, or blank ones. What they read as in this start stays.
     ///
@@ -130,6 +136,9 @@ impl<F: MarkedFlash> SteadyFlash<F> {
                 flash,
                 layout,
                 is_lost: false,
+                in_doubt: None,
+                operations: 0,
+                faults: 0,
             }),
             Err(why) => Err(Unmounted { flash, why }),
         }
@@ -150,26 +159,20 @@ impl<F: MarkedFlash> SteadyFlash<F> {
         self.flash
     }
 
-    /// Returns how many pages the log has.
-    pub fn pages(&self) -> usize {
-        self.layout.pages
-    }
-
     /// Reads a slot. One that is not there reads as no word.
-    pub fn read_slot(&self, page: usize, slot: usize) -> [u8; SLOT_BYTES] {
-        if page < self.layout.pages && slot < PAGE_SLOTS {
-            self.held_slot(page, slot)
-        } else {
-            NO_SLOT
+    fn read(&self, page: usize, slot: usize) -> [u8; SLOT_BYTES] {
+        if page >= self.layout.pages || slot >= PAGE_SLOTS {
+            return NO_SLOT;
         }
+        if self.in_doubt == Some(Doubt { page, slot }) {
+            return BLANK;
+        }
+        self.flash
+            .read_slot(self.layout.held[page].page as usize, slot)
     }
 
-    /// Clears the bits of a slot that are clear in `bytes`.
-    ///
-    /// # Errors
-    ///
-    /// `FlashFault` as [`NorFlash`](crate::NorFlash) says.
-    pub fn program_slot(
+    /// Programs a slot that is there, unless the flash was given up or has come to its end.
+    fn program(
         &mut self,
         page: usize,
         slot: usize,
@@ -178,101 +181,37 @@ impl<F: MarkedFlash> SteadyFlash<F> {
         if !self.takes(page, slot) {
             return Err(FlashFault);
         }
-        let held = self.held_slot(page, slot);
-        let after = both(held, bytes);
-        if after == held {
-            return Ok(());
+        match write(
+            &mut self.flash,
+            &mut self.layout,
+            &mut self.in_doubt,
+            page,
+            slot,
+            bytes,
+        ) {
+            Ok(()) => Ok(()),
+            Err(Failed::Torn) => Err(FlashFault),
+            Err(_) => {
+                self.is_lost = true;
+                Err(FlashFault)
+            }
         }
-        if held != BLANK {
-            return self.change(page, slot, after);
-        }
-        self.fill(page, slot, bytes)
     }
 
-    /// Sets every bit of a page.
-    ///
-    /// # Errors
-    ///
-    /// `FlashFault` as [`NorFlash`](crate::NorFlash) says.
-    pub fn erase_page(&mut self, page: usize) -> Result<(), FlashFault> {
+    /// Erases a page that is there, unless the flash was given up or has come to its end.
+    fn erase(&mut self, page: usize) -> Result<(), FlashFault> {
         if !self.takes(page, 0) {
             return Err(FlashFault);
         }
         match erase_page(&mut self.flash, &mut self.layout, page) {
             Ok(()) => Ok(()),
-            Err(Stop::InDoubt) => Err(self.give_up()),
-            Err(_) => Err(FlashFault),
-        }
-    }
-
-    /// Reads a slot that is there.
-    fn held_slot(&self, page: usize, slot: usize) -> [u8; SLOT_BYTES] {
-        self.flash
-            .read_slot(self.layout.held[page].page as usize, slot)
-    }
-
-    /// Moves a page with other bytes in one slot.
-    fn change(
-        &mut self,
-        page: usize,
-        slot: usize,
-        bytes: [u8; SLOT_BYTES],
-    ) -> Result<(), FlashFault> {
-        let change = Changed { slot, bytes };
-        match move_page(&mut self.flash, &mut self.layout, page, Some(change)) {
-            Ok(()) => Ok(()),
-            Err(Stop::InDoubt) => Err(self.give_up()),
-            Err(_) => Err(FlashFault),
-        }
-    }
-
-    /// Programs a slot that is blank where it stands.
-    fn fill(&mut self, page: usize, slot: usize, bytes: [u8; SLOT_BYTES]) -> Result<(), FlashFault> {
-        if self.open(page).is_err() {
-            return Err(FlashFault);
-        }
-        let at = self.layout.held[page].page as usize;
-        match program_slot(&mut self.flash, at, slot, bytes) {
-            Ok(()) => Ok(()),
-            Err(_) => Err(self.settle_fault(page, slot)),
-        }
-    }
-
-    /// Says that slots of a page are programmed from here on: its next start settles it.
-    fn open(&mut self, page: usize) -> Result<(), Stop> {
-        if self.layout.held[page].is_opened {
-            return Ok(());
-        }
-        program_mark(
-            &mut self.flash,
-            self.layout.held[page].page as usize,
-            OPEN,
-            ZEROS,
-        )?;
-        self.layout.held[page].is_opened = true;
-        Ok(())
-    }
-
-    /// Settles a slot that could not be programmed, as it reads once, before the fault is told.
-    fn settle_fault(&mut self, page: usize, slot: usize) -> FlashFault {
-        let read = self
-            .flash
-            .read_slot(self.layout.held[page].page as usize, slot);
-        let change = Changed { slot, bytes: read };
-        for _ in 0..TRIES {
-            match move_page(&mut self.flash, &mut self.layout, page, Some(change)) {
-                Ok(()) => return FlashFault,
-                Err(Stop::Fault) => {}
-                Err(_) => return self.give_up(),
+            Err(Stop::InDoubt) => {
+                self.is_lost = true;
+                self.flash.give_up();
+                Err(FlashFault)
             }
+            Err(_) => Err(FlashFault),
         }
-        self.give_up()
-    }
-
-    fn give_up(&mut self) -> FlashFault {
-        self.is_lost = true;
-        self.flash.give_up();
-        FlashFault
     }
 
     /// Whether an operation on this page may be made.
@@ -280,15 +219,42 @@ impl<F: MarkedFlash> SteadyFlash<F> {
         page < self.layout.pages
             && slot < PAGE_SLOTS
             && !self.is_lost
+            && self.in_doubt.is_none()
             && self.layout.held[page].number <= LAST_WRITTEN
     }
 }
 
-/// The bits that are set in both.
-fn both(held: [u8; SLOT_BYTES], bytes: [u8; SLOT_BYTES]) -> [u8; SLOT_BYTES] {
-    let mut after = held;
-    for k in 0..SLOT_BYTES {
-        after[k] &= bytes[k];
+impl<F: MarkedFlash> NorFlash for SteadyFlash<F> {
+    // where no fault was counted, the claims that counted do
+
+    fn pages(&self) -> usize {
+        self.layout.pages
     }
-    after
+
+    fn read_slot(&self, page: usize, slot: usize) -> [u8; SLOT_BYTES] {
+        self.read(page, slot)
+    }
+
+    fn program_slot(
+        &mut self,
+        page: usize,
+        slot: usize,
+        bytes: [u8; SLOT_BYTES],
+    ) -> Result<(), FlashFault> {
+        self.operations = self.operations.wrapping_add(1);
+        let done = self.program(page, slot, bytes);
+        if done.is_err() {
+            self.faults = self.faults.wrapping_add(1);
+        }
+        done
+    }
+
+    fn erase_page(&mut self, page: usize) -> Result<(), FlashFault> {
+        self.operations = self.operations.wrapping_add(1);
+        let done = self.erase(page);
+        if done.is_err() {
+            self.faults = self.faults.wrapping_add(1);
+        }
+        done
+    }
 }

@@ -1,0 +1,28 @@
+use Rattle.std.proofs.Common.{arith, ◌<◌, ◌∙◌}
+use Rattle.steady_flash.specs.Shown.{IsKept}
+use Rattle.steady_flash.proofs.Claiming.{claimed_same}
+use Rattle.steady_flash.proofs.Session.{kept_by_same, kept_torn, settled_but, others_in_place, torn_into, doubted_from, left_as}
+use Rattle.steady_flash.proofs.writing.fill.Goals as goal
+
+pub returns-then-is_err-clause-outcome : goal.returns-then-is_err-clause-outcome
+returns-then-is_err-clause-outcome g c settled e some =
+    kept_torn c.args.layout.now c.open.new.layout _ _ c.args.page c.args.slot c.args.bytes c.requires.in_pages c.requires.in_page (kept_by_same c.args.layout.now c.open.new.layout _ _ settled c.open.ensures.slots c.open.ensures.same_pages c.open.ensures.same_places) e
+
+pub returns-in-Err-clause-outcome : goal.returns-in-Err-clause-outcome
+returns-in-Err-clause-outcome g c settled e some =
+    let k : IsKept (g.F.MarkedFlash.slots c.args.flash.now) c.args.layout.now (g.F.MarkedFlash.slots c.open.new.flash) c.open.new.layout = kept_by_same c.args.layout.now c.open.new.layout _ _ settled c.open.ensures.slots c.open.ensures.same_pages c.open.ensures.same_places in
+    let b : c.args.page < c.open.new.layout.pages = rw c.open.ensures.same_pages c.requires.in_pages in
+    let free = (k.settled c.args.page c.args.slot b c.requires.in_page).erased_if_blank (k.same c.args.page c.args.slot c.requires.in_pages c.requires.in_page ∙ e) in
+    let torn = c.in-Err.ensures.outcome free some in
+    let but = settled_but _ c.open.new.layout _ _ c.args.page c.args.slot c.open.ensures.laid_out b k.settled c.program_slot.ensures.others in
+    left_as c.settle.result _ _ _ _
+    (torn_into c.args.layout.now _ _ _ _ c.open.new.layout c.args.page c.args.slot c.args.bytes (λ p s h m apart. others_in_place _ c.open.new.layout _ _ c.args.page c.args.slot p s c.open.ensures.laid_out b (rw c.open.ensures.same_pages h) c.program_slot.ensures.others apart ∙ k.same p s h m) c.open.ensures.same_pages)
+    (doubted_from c.args.layout.now _ _ _ _ c.open.new.layout c.args.page c.args.slot (λ p s h m apart. others_in_place _ c.open.new.layout _ _ c.args.page c.args.slot p s c.open.ensures.laid_out b (rw c.open.ensures.same_pages h) c.program_slot.ensures.others apart ∙ k.same p s h m) c.open.ensures.same_pages)
+    (c.settle.ensures.outcome c.args.bytes c.requires.eight but torn)
+
+pub returns-in-Ok-clause-claimed : goal.returns-in-Ok-clause-claimed
+returns-in-Ok-clause-claimed g c = λ k.
+    claimed_same _ (g.F.MarkedFlash.marks c.open.new.flash) (g.F.MarkedFlash.marks c.program_slot.new.flash) c.open.new.layout c.program_slot.ensures.marks (c.open.ensures.claimed k)
+
+pub returns-in-Err-clause-numbers : goal.returns-in-Err-clause-numbers
+returns-in-Err-clause-numbers g c = λ p. omega (arith, c.settle.ensures.numbers p, c.open.ensures.numbers p)

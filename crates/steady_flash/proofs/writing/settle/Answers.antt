@@ -1,0 +1,14 @@
+use Rattle.std.proofs.Common.{rules}
+use Rattle.steady_flash.specs.Cells.{IsEight}
+use Rattle.steady_flash.proofs.Cells.{torn_reading}
+use Rattle.steady_flash.proofs.Session.{settled_by_moves}
+use Rattle.steady_flash.proofs.writing.settle.Goals as goal
+
+pub returns-in-Ok-clause-outcome : goal.returns-in-Ok-clause-outcome
+returns-in-Ok-clause-outcome g c bytes eight settled torn =
+    let read : IsEight c.read_slot-read.result = record { eight = search rules; each = search rules } in
+    record {
+      now = c.read_slot-read.result;
+      changed = settled_by_moves _ c.args.layout.now c.loop.layout _ _ _ _ c.args.page (record { slot = c.args.slot; bytes = c.read_slot-read.result }) c.requires.laid_out c.requires.in_pages c.requires.in_page settled c.loop.invariant.same_layout c.loop.invariant.others c.move_page.ensures.others c.in-Ok.ensures.copied c.in-Ok.ensures.moved;
+      torn = torn_reading bytes _ _ eight read torn c.read_slot-read.ensures;
+    }

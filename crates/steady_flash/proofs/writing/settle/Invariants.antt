@@ -1,0 +1,10 @@
+use Rattle.std.proofs.Common.{◌≡◌}
+use Rattle.steady_flash.specs.Marked.{OnePageOfPlaces}
+use Rattle.steady_flash.proofs.writing.settle.Given as goal
+
+abbrev pub invariant-loop : goal.invariant-loop
+invariant-loop g l = record {
+  same_size : g.F.MarkedFlash.size l.flash ≡ g.F.MarkedFlash.size l.fn.flash;
+  same_layout : l.layout ≡ l.fn.layout;
+  others : OnePageOfPlaces (g.F.MarkedFlash.slots l.fn.flash) l.fn.layout.spare (g.F.MarkedFlash.slots l.flash);
+}
