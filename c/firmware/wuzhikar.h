@@ -74,15 +74,15 @@ void wz_panic(void);
 /* ---- Memory: the bytes of each object ---- */
 
 #if UINTPTR_MAX > 0xffffffffu
-#define WZ_KEYBOARD_BYTES 1848
-#define WZ_DEVICE_BYTES 2320
+#define WZ_KEYBOARD_BYTES 1840
+#define WZ_DEVICE_BYTES 2312
 #define WZ_LOG_BYTES 96
 #define WZ_SETTINGS_BYTES 120
 #define WZ_PAIRED_BYTES 72
 #define WZ_CHANGE_BYTES 72
 #else
-#define WZ_KEYBOARD_BYTES 1776
-#define WZ_DEVICE_BYTES 2096
+#define WZ_KEYBOARD_BYTES 1768
+#define WZ_DEVICE_BYTES 2088
 #define WZ_LOG_BYTES 64
 #define WZ_SETTINGS_BYTES 72
 #define WZ_PAIRED_BYTES 48

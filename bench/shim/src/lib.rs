@@ -17,24 +17,6 @@ fn keyboard() -> &'static mut Keyboard {
     unsafe { &mut *addr_of_mut!(KEYBOARD).cast() }
 }
 
-/// Puts bytes where the caller wants them, as a driver fills its controller's buffer, and gives their number. `FULL` bytes are
-/// put there by words, others one by one; neither is a call.
-///
-/// # Safety
-/// `out` has room for them.
-unsafe fn give<const FULL: usize>(bytes: &[u8], out: *mut u8) -> u32 {
-    unsafe {
-        if let Ok(full) = <[u8; FULL]>::try_from(bytes) {
-            out.cast::<[u8; FULL]>().write(full);
-        } else {
-            for (at, &byte) in bytes.iter().enumerate() {
-                out.add(at).write_volatile(byte);
-            }
-        }
-    }
-    bytes.len() as u32
-}
-
 /// An answer as a number of the header: of a packet its length.
 fn number(answer: &EpAnswer) -> i32 {
     match answer {
@@ -64,7 +46,7 @@ extern "C" fn kb_scan(rows: &[u16; 6]) {
 
 #[unsafe(no_mangle)]
 extern "C" fn kb_setup(packet: &[u8; 8]) {
-    keyboard().setup(*packet);
+    keyboard().setup_at(packet);
 }
 
 /// # Safety
@@ -90,10 +72,7 @@ unsafe extern "C" fn kb_in(packet: *mut u8) -> i32 {
 /// `report` has room for 23 bytes.
 #[unsafe(no_mangle)]
 unsafe extern "C" fn kb_poll(report: *mut u8) -> u32 {
-    match keyboard().poll() {
-        Some(sent) => unsafe { give::<23>(&sent, report) },
-        None => 0,
-    }
+    keyboard().poll_into(unsafe { &mut *report.cast() }).map_or(0, u32::from)
 }
 
 #[unsafe(no_mangle)]

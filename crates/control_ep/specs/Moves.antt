@@ -1,6 +1,6 @@
 -- Trusted where this crate is called: what each call does to the stage, the look-back of `stage` one call at a time.
 use Rattle.shapes.specs.Shapes.{Bytes}
-use Rattle.std.specs.Prelude.{ℕ, ◌+◌, []}
+use Rattle.std.specs.Prelude.{◌+◌, []}
 use Rattle.control_ep.specs.declared.why.Why.TheVariants.{FlashFault, WrongStage}
 use Rattle.control_ep.specs.declared.answer.EpAnswer.{EpAnswer}
 use Rattle.control_ep.specs.declared.answer.EpAnswer.TheVariants.{Stall}

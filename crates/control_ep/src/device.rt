@@ -1,10 +1,12 @@
 //! The device that a SETUP packet is answered from.
 
 ghost use Rattle.std.specs.Prelude.{◌≡◌};
+ghost use Rattle.reports.specs.representation.Words.{first_bytes};
 ghost use Rattle.control_ep.specs.declared.answer.DeviceView.{DeviceView};
 
 use crate::DeviceView;
 use reports::Protocol;
+use reports::words::words_of;
 
 /// A device that a SETUP packet is answered from. Each part is asked for only where the packet reads it,
 /// so that a report's bytes need not be there before.
@@ -32,17 +34,17 @@ pub trait DeviceReports {
     fn feature(&self) -> [u8; 6]
         ensures { (view : DeviceView) → shows self.now view → result ≡ view.feature };
 
-    /// The input report of Report ID 1, with the ID.
-    fn bitmap(&self) -> [u8; 23]
-        ensures { (view : DeviceView) → shows self.now view → result ≡ view.bitmap };
+    /// The input report of Report ID 1, with the ID: 23 bytes, four to a word, the first in the low bits.
+    fn bitmap(&self) -> [u32; 6]
+        ensures { (view : DeviceView) → shows self.now view → first_bytes result 23 ≡ view.bitmap };
 
-    /// The input report of Report ID 2, with the ID.
-    fn consumer(&self) -> [u8; 9]
-        ensures { (view : DeviceView) → shows self.now view → result ≡ view.consumer };
+    /// The input report of Report ID 2, with the ID: 9 bytes, likewise.
+    fn consumer(&self) -> [u32; 6]
+        ensures { (view : DeviceView) → shows self.now view → first_bytes result 9 ≡ view.consumer };
 
-    /// The boot input report.
-    fn boot(&self) -> [u8; 8]
-        ensures { (view : DeviceView) → shows self.now view → result ≡ view.boot };
+    /// The boot input report: 8 bytes, likewise.
+    fn boot(&self) -> [u32; 6]
+        ensures { (view : DeviceView) → shows self.now view → first_bytes result 8 ≡ view.boot };
 }
 
 impl DeviceReports for DeviceView {
@@ -68,15 +70,15 @@ impl DeviceReports for DeviceView {
         self.feature
     }
 
-    fn bitmap(&self) -> [u8; 23] {
-        self.bitmap
+    fn bitmap(&self) -> [u32; 6] {
+        words_of(&self.bitmap)
     }
 
-    fn consumer(&self) -> [u8; 9] {
-        self.consumer
+    fn consumer(&self) -> [u32; 6] {
+        words_of(&self.consumer)
     }
 
-    fn boot(&self) -> [u8; 8] {
-        self.boot
+    fn boot(&self) -> [u32; 6] {
+        words_of(&self.boot)
     }
 }

@@ -103,16 +103,16 @@ impl ControlEp {
             → Refines (Setup setup view.now ∷ past) self.new }
         ensures left { self.new ≡ begun setup view.now }
     {
-        self.setup_from(setup, view);
+        self.setup_from(&setup, view);
     }
 
-    /// Takes a SETUP packet as `setup` does, for a device that is asked for what is read, and for nothing
-    /// else.
+    /// Takes a SETUP packet as `setup` does, where it lies, for a device that is asked for what is read, and
+    /// for nothing else.
     #[tactic(auto, using(crate::proofs::Next::next_setup))]
-    pub fn setup_from<D: DeviceReports>(&mut self, setup: [u8; 8], device: &D)
+    pub fn setup_from<D: DeviceReports>(&mut self, setup: &[u8; 8], device: &D)
         ensures refines { (view : DeviceView) (past : List EpCall) → D.shows device.now view → Refines past self.old
-            → Refines (Setup setup view ∷ past) self.new }
-        ensures left { (view : DeviceView) → D.shows device.now view → self.new ≡ begun setup view }
+            → Refines (Setup setup.now view ∷ past) self.new }
+        ensures left { (view : DeviceView) → D.shows device.now view → self.new ≡ begun setup.now view }
     {
         self.begin(setup, device);
     }
@@ -258,8 +258,8 @@ impl ControlEp {
 
     /// Begins the transfer that a SETUP packet asks for, or stalls it.
     #[tactic(auto, using(crate::proofs::Next::begun_by))]
-    fn begin<D: DeviceReports>(&mut self, setup: [u8; 8], device: &D)
-        ensures { (view : DeviceView) → D.shows device.now view → self.new ≡ begun setup view }
+    fn begin<D: DeviceReports>(&mut self, setup: &[u8; 8], device: &D)
+        ensures { (view : DeviceView) → D.shows device.now view → self.new ≡ begun setup.now view }
     {
         let request = Request::read(setup);
         self.stage = match request.transfer(device, &mut self.read) {

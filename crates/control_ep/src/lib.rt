@@ -23,11 +23,11 @@ mod answer;
 mod data;
 mod device;
 mod endpoint;
-mod packets;
 mod report;
 mod request;
 pub mod theorems;
 mod why;
+mod words;
 
 pub use answer::{DeviceView, Effect, EpAnswer, InAnswer, OutAnswer, OutStep, Received, Verdict};
 pub use device::DeviceReports;

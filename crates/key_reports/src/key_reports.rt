@@ -1,6 +1,6 @@
 //! The debouncer, the held keys and the poller as one value.
 
-ghost use Rattle.std.specs.Prelude.{◌≡◌, ℕ, List, [], ◌∷◌, IfOk};
+ghost use Rattle.std.specs.Prelude.{◌≡◌, ◌≤◌, ℕ, List, [], ◌∷◌, take, IfOk, IfSome};
 ghost use Rattle.std.specs.Option.{option_map};
 ghost use Rattle.debounce.specs.declared.Scan.{Scan};
 ghost use Rattle.layers.specs.Keymaps.{HasEntries};
@@ -9,6 +9,7 @@ ghost use Rattle.reports.specs.declared.Input.{Input};
 ghost use Rattle.reports.specs.Answers.{idle_input};
 ghost use Rattle.reports.specs.Calls.{polled, idle_set, forgot, was_reset};
 ghost use Rattle.reports.specs.Poll.{idle_value};
+ghost use Rattle.reports.specs.representation.Words.{first_bytes};
 ghost use Rattle.key_reports.specs.Calls.{KeyCall, Scanned, Asked};
 ghost use Rattle.key_reports.specs.Past.{keys_after, consumer_after, wanted_after, poller_calls, answer_after};
 ghost use Rattle.key_reports.specs.Tables.{table};
@@ -16,7 +17,7 @@ ghost use Rattle.key_reports.specs.Tables.{table};
 use crate::keys::{make_for, take_edges};
 use debounce::{KeySet, Matrix, Scan};
 use layers::{Defaults, Held, KeymapOf, Usages};
-use reports::{IdleId, Poller, Protocol, Report};
+use reports::{IdleId, InputReport, Poller, Protocol, Report};
 use std::alloc::{AllocError, Global};
 use std::marker::Model;
 
@@ -109,6 +110,19 @@ impl KeyReports {
         self.poller.poll_made(protocol)
     }
 
+    /// `poll` into a buffer: it writes the report from the start of `report`, and returns how many bytes
+    /// it has.
+    pub fn poll_into(&mut self, protocol: Protocol, report: &mut [u8; 23]) -> Option<u8>
+        ensures refines { (past : List KeyCall) → Refines past self.old
+            → Refines (Asked (polled protocol (option_map (λ n. take n report.new) result)) ∷ past) self.new }
+        ensures answer { (past : List KeyCall) → Refines past self.old
+            → option_map (λ n. take n report.new) result ≡ answer_after protocol past }
+        ensures room { IfSome result (λ n. n ≤ 23) }
+    {
+        make_for(&mut self.poller, &self.held, protocol);
+        self.poller.poll_into(protocol, report)
+    }
+
     /// The usages that the codes of the held keys name.
     #[tactic(auto, unfolding(crate::specs::Past::keys_after, crate::specs::Past::consumer_after))]
     pub fn usages(&self) -> Usages
@@ -120,34 +134,34 @@ impl KeyReports {
         self.held.usages()
     }
 
-    /// The bytes that the boot report has now. To ask for them sends nothing.
-    pub fn boot(&self) -> [u8; 8]
-        ensures { (past : List KeyCall) → Refines past self.now → result ≡ wanted_after past Input.Boot }
+    /// The words of the boot report now (`InputReport::words`). To ask for them sends nothing.
+    pub fn boot(&self) -> [u32; 6]
+        ensures { (past : List KeyCall) → Refines past self.now → first_bytes result 8 ≡ wanted_after past Input.Boot }
     {
         if self.poller.is_made_for(Protocol::Boot) {
-            self.poller.made_boot().eight()
+            self.poller.made_boot().words()
         } else {
             self.boot_anew()
         }
     }
 
-    /// The bytes that the report of ID 1 has now. To ask for them sends nothing.
-    pub fn bitmap(&self) -> [u8; 23]
-        ensures { (past : List KeyCall) → Refines past self.now → result ≡ wanted_after past Input.One }
+    /// The words of the report of ID 1 now. To ask for them sends nothing.
+    pub fn bitmap(&self) -> [u32; 6]
+        ensures { (past : List KeyCall) → Refines past self.now → first_bytes result 23 ≡ wanted_after past Input.One }
     {
         if self.poller.is_made_for(Protocol::Report) {
-            self.poller.made_bitmap().twenty_three()
+            self.poller.made_bitmap().words()
         } else {
             self.bitmap_anew()
         }
     }
 
-    /// The bytes that the report of ID 2 has now. To ask for them sends nothing.
-    pub fn consumer(&self) -> [u8; 9]
-        ensures { (past : List KeyCall) → Refines past self.now → result ≡ wanted_after past Input.Two }
+    /// The words of the report of ID 2 now. To ask for them sends nothing.
+    pub fn consumer(&self) -> [u32; 6]
+        ensures { (past : List KeyCall) → Refines past self.now → first_bytes result 9 ≡ wanted_after past Input.Two }
     {
         if self.poller.is_made_for(Protocol::Report) {
-            self.poller.made_consumer().nine()
+            self.poller.made_consumer().words()
         } else {
             self.consumer_anew()
         }
@@ -184,27 +198,27 @@ impl KeyReports {
         self.poller.reset()
     }
 
-    /// The bytes of the boot report, made of the held keys. Rare.
+    /// The words of the boot report, made of the held keys. Rare.
     #[inline(never)]
-    fn boot_anew(&self) -> [u8; 8]
-        ensures { (past : List KeyCall) → Refines past self.now → result ≡ wanted_after past Input.Boot }
+    fn boot_anew(&self) -> [u32; 6]
+        ensures { (past : List KeyCall) → Refines past self.now → first_bytes result 8 ≡ wanted_after past Input.Boot }
     {
-        reports::boot(self.held.lent())
+        InputReport::boot(self.held.lent()).words()
     }
 
-    /// The bytes of the report of ID 1, made of the held keys. Rare.
+    /// The words of the report of ID 1, made of the held keys. Rare.
     #[inline(never)]
-    fn bitmap_anew(&self) -> [u8; 23]
-        ensures { (past : List KeyCall) → Refines past self.now → result ≡ wanted_after past Input.One }
+    fn bitmap_anew(&self) -> [u32; 6]
+        ensures { (past : List KeyCall) → Refines past self.now → first_bytes result 23 ≡ wanted_after past Input.One }
     {
-        reports::bitmap(self.held.lent())
+        InputReport::bitmap(self.held.lent()).words()
     }
 
-    /// The bytes of the report of ID 2, made of the held keys. Rare.
+    /// The words of the report of ID 2, made of the held keys. Rare.
     #[inline(never)]
-    fn consumer_anew(&self) -> [u8; 9]
-        ensures { (past : List KeyCall) → Refines past self.now → result ≡ wanted_after past Input.Two }
+    fn consumer_anew(&self) -> [u32; 6]
+        ensures { (past : List KeyCall) → Refines past self.now → first_bytes result 9 ≡ wanted_after past Input.Two }
     {
-        reports::consumer(self.held.lent())
+        InputReport::consumer(self.held.lent()).words()
     }
 }

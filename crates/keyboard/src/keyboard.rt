@@ -1,6 +1,6 @@
 //! The keyboard and its calls.
 
-ghost use Rattle.std.specs.Prelude.{◌≡◌, ◌≢◌, ◌+◌, ◌∷◌, [], ℕ, List, None, Ok, false, IfOk, is_none};
+ghost use Rattle.std.specs.Prelude.{◌≡◌, ◌≢◌, ◌≤◌, ◌+◌, ◌∷◌, [], ℕ, List, None, Ok, false, take, IfOk, IfSome, is_none};
 ghost use Rattle.std.specs.Option.{option_map};
 ghost use Rattle.layers.specs.Entries.{changed};
 ghost use Rattle.layers.specs.Keymaps.{HasEntries};
@@ -165,6 +165,17 @@ impl<D: Defaults> KeyboardOf<D> {
         // it still runs on its flash
         ensures runs_on { (image : List ℕ) → RunsOn D.defaults image self.old → RunsOn D.defaults image self.new }
     {
+        self.setup_at(&packet);
+    }
+
+    /// Takes a SETUP packet as `setup` does, where it lies.
+    pub fn setup_at(&mut self, packet: &[u8; 8])
+        // it stands for this call after those before it
+        ensures refines { (start : List ℕ) (past : List Call) → Refines D.defaults start past self.old
+            → Refines D.defaults start (SetUp packet.now ∷ past) self.new }
+        // it still runs on its flash
+        ensures runs_on { (image : List ℕ) → RunsOn D.defaults image self.old → RunsOn D.defaults image self.new }
+    {
         let shown = Shown {
             keys: &self.keys,
             store: &self.store,
@@ -265,6 +276,24 @@ impl<D: Defaults> KeyboardOf<D> {
         ensures runs_on { (image : List ℕ) → RunsOn D.defaults image self.old → RunsOn D.defaults image self.new }
     {
         self.keys.poll(self.protocol)
+    }
+
+    /// Answers a poll of endpoint 1 as `poll` does, and writes the report into `report`, from the start. The
+    /// answer says how many bytes it has; what stands after them, and in a `report` that no poll answers,
+    /// means nothing.
+    pub fn poll_into(&mut self, report: &mut [u8; 23]) -> Option<u8>
+        // it stands for this call after those before it
+        ensures refines { (start : List ℕ) (past : List Call) → Refines D.defaults start past self.old
+            → Refines D.defaults start (Polled (option_map (λ n. take n report.new) result) ∷ past) self.new }
+        // the answer is the report that waits, else that of the poll rule
+        ensures answer { (start : List ℕ) (past : List Call) → Refines D.defaults start past self.old
+            → option_map (λ n. take n report.new) result ≡ answer_after (protocol_after past) (key_calls D.defaults start past) }
+        // the report is within the buffer
+        ensures room { IfSome result (λ n. n ≤ 23) }
+        // it still runs on its flash
+        ensures runs_on { (image : List ℕ) → RunsOn D.defaults image self.old → RunsOn D.defaults image self.new }
+    {
+        self.keys.poll_into(self.protocol, report)
     }
 
     /// Makes the one flash operation that the command at work needs next, or none where no command works.

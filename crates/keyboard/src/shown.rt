@@ -43,15 +43,15 @@ impl<'a, D: Defaults> DeviceReports for Shown<'a, D> {
         [3, 0, self.layer.number(), self.key.number(), low, high]
     }
 
-    fn bitmap(&self) -> [u8; 23] {
+    fn bitmap(&self) -> [u32; 6] {
         self.keys.bitmap()
     }
 
-    fn consumer(&self) -> [u8; 9] {
+    fn consumer(&self) -> [u32; 6] {
         self.keys.consumer()
     }
 
-    fn boot(&self) -> [u8; 8] {
+    fn boot(&self) -> [u32; 6] {
         self.keys.boot()
     }
 }

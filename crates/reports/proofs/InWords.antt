@@ -6,6 +6,7 @@ use Rattle.std.specs.Str.{bytes_eq}
 use Rattle.std.proofs.lemmas.Bool.{cases_eq, cases_lt, cases_Bool, eq-eqb}
 use Rattle.std.proofs.lemmas.Bool.Decides.{nat_tests}
 use Rattle.std.proofs.lemmas.Grind.{same_number_lists}
+use Rattle.std.proofs.lemmas.List.FromFn.{take-map-range_with_len, fill_by_all}
 use Rattle.std.proofs.Math.Nat.{zero-div, div-div-eq-div-mul}
 use Rattle.std.proofs.lemmas.Nat.{pow-add}
 use Rattle.std.proofs.lemmas.Nat.Bits.{bit_at_cat_low, bit_at_cat_high, bit_at_above}
@@ -154,6 +155,46 @@ pub from_nine : (xs : List ℕ) (v w x : ℕ) → length xs ≡ 9 → Packs v (g
     → Packs w (get_or xs 4 0) (get_or xs 5 0) (get_or xs 6 0) (get_or xs 7 0) → Packs x (get_or xs 8 0) 0 0 0 → first_bytes (v ∷ w ∷ x ∷ 0 ∷ 0 ∷ 0 ∷ []) 9 ≡ xs
 unfolding first_bytes
 from_nine xs v w x l p q r = rw (p.p0, p.p1, p.p2, p.p3, q.p0, q.p1, q.p2, q.p3, r.p0) (sym (nine_at xs l))
+
+-- bytes from a place on, as a word
+abbrev pub PacksAt : List ℕ → ℕ → ℕ → Type 0
+PacksAt xs i w = Packs w (get_or xs i 0) (get_or xs (i + 1) 0) (get_or xs (i + 2) 0) (get_or xs (i + 3) 0)
+
+six_each : (xs : List ℕ) (a b c d e f : ℕ) → PacksAt xs 0 a → PacksAt xs 4 b → PacksAt xs 8 c → PacksAt xs 12 d → PacksAt xs 16 e → PacksAt xs 20 f
+    → (k : ℕ) → k < 24 → byte_at (a ∷ b ∷ c ∷ d ∷ e ∷ f ∷ []) k ≡ get_or xs k 0
+six_each xs a b c d e f p q r s t u zero l = p.p0
+six_each xs a b c d e f p q r s t u (suc zero) l = p.p1
+six_each xs a b c d e f p q r s t u (suc (suc zero)) l = p.p2
+six_each xs a b c d e f p q r s t u (suc (suc (suc zero))) l = p.p3
+six_each xs a b c d e f p q r s t u (suc (suc (suc (suc zero)))) l = q.p0
+six_each xs a b c d e f p q r s t u (suc (suc (suc (suc (suc zero))))) l = q.p1
+six_each xs a b c d e f p q r s t u (suc (suc (suc (suc (suc (suc zero)))))) l = q.p2
+six_each xs a b c d e f p q r s t u (suc (suc (suc (suc (suc (suc (suc zero))))))) l = q.p3
+six_each xs a b c d e f p q r s t u (suc (suc (suc (suc (suc (suc (suc (suc zero)))))))) l = r.p0
+six_each xs a b c d e f p q r s t u (suc (suc (suc (suc (suc (suc (suc (suc (suc zero))))))))) l = r.p1
+six_each xs a b c d e f p q r s t u (suc (suc (suc (suc (suc (suc (suc (suc (suc (suc zero)))))))))) l = r.p2
+six_each xs a b c d e f p q r s t u (suc (suc (suc (suc (suc (suc (suc (suc (suc (suc (suc zero))))))))))) l = r.p3
+six_each xs a b c d e f p q r s t u (suc (suc (suc (suc (suc (suc (suc (suc (suc (suc (suc (suc zero)))))))))))) l = s.p0
+six_each xs a b c d e f p q r s t u (suc (suc (suc (suc (suc (suc (suc (suc (suc (suc (suc (suc (suc zero))))))))))))) l = s.p1
+six_each xs a b c d e f p q r s t u (suc (suc (suc (suc (suc (suc (suc (suc (suc (suc (suc (suc (suc (suc zero)))))))))))))) l = s.p2
+six_each xs a b c d e f p q r s t u (suc (suc (suc (suc (suc (suc (suc (suc (suc (suc (suc (suc (suc (suc (suc zero))))))))))))))) l = s.p3
+six_each xs a b c d e f p q r s t u (suc (suc (suc (suc (suc (suc (suc (suc (suc (suc (suc (suc (suc (suc (suc (suc zero)))))))))))))))) l = t.p0
+six_each xs a b c d e f p q r s t u (suc (suc (suc (suc (suc (suc (suc (suc (suc (suc (suc (suc (suc (suc (suc (suc (suc zero))))))))))))))))) l = t.p1
+six_each xs a b c d e f p q r s t u (suc (suc (suc (suc (suc (suc (suc (suc (suc (suc (suc (suc (suc (suc (suc (suc (suc (suc zero)))))))))))))))))) l = t.p2
+six_each xs a b c d e f p q r s t u (suc (suc (suc (suc (suc (suc (suc (suc (suc (suc (suc (suc (suc (suc (suc (suc (suc (suc (suc zero))))))))))))))))))) l = t.p3
+six_each xs a b c d e f p q r s t u (suc (suc (suc (suc (suc (suc (suc (suc (suc (suc (suc (suc (suc (suc (suc (suc (suc (suc (suc (suc zero)))))))))))))))))))) l = u.p0
+six_each xs a b c d e f p q r s t u (suc (suc (suc (suc (suc (suc (suc (suc (suc (suc (suc (suc (suc (suc (suc (suc (suc (suc (suc (suc (suc zero))))))))))))))))))))) l = u.p1
+six_each xs a b c d e f p q r s t u (suc (suc (suc (suc (suc (suc (suc (suc (suc (suc (suc (suc (suc (suc (suc (suc (suc (suc (suc (suc (suc (suc zero)))))))))))))))))))))) l = u.p2
+six_each xs a b c d e f p q r s t u (suc (suc (suc (suc (suc (suc (suc (suc (suc (suc (suc (suc (suc (suc (suc (suc (suc (suc (suc (suc (suc (suc (suc zero))))))))))))))))))))))) l = u.p3
+six_each xs a b c d e f p q r s t u (suc (suc (suc (suc (suc (suc (suc (suc (suc (suc (suc (suc (suc (suc (suc (suc (suc (suc (suc (suc (suc (suc (suc (suc k)))))))))))))))))))))))) l = absurd (omega arith)
+
+pub from_six : (xs : List ℕ) (a b c d e f : ℕ) → length xs ≤ 24 → PacksAt xs 0 a → PacksAt xs 4 b → PacksAt xs 8 c → PacksAt xs 12 d → PacksAt xs 16 e → PacksAt xs 20 f
+    → first_bytes (a ∷ b ∷ c ∷ d ∷ e ∷ f ∷ []) (length xs) ≡ xs
+from_six xs a b c d e f fits p q r s t u =
+    let ws : List ℕ = a ∷ b ∷ c ∷ d ∷ e ∷ f ∷ [] in
+    same_number_lists (first_bytes ws (length xs)) xs (length-first_bytes ws (length xs))
+    (λ k m. let l : k < length xs = omega (arith, m, length-first_bytes ws (length xs)) in
+    first_bytes-at ws (length xs) k l ∙ six_each xs a b c d e f p q r s t u k (omega arith))
 
 -- ---- the words of the bitmap
 
@@ -408,3 +449,18 @@ kind_decides i j ws vs b p q s to from =
 pub bitmap_size : (test : ℕ → Bool) → length (bitmap_bytes test) ≡ 23
 unfolding bitmap_bytes
 bitmap_size test = omega (arith, length-bytes_of (bitmap_bit test) 22)
+
+-- ---- the first 23 of 24 bytes
+
+size_most : (input : Input) → size_of input ≤ 23
+size_most Boot = omega arith
+size_most One = omega arith
+size_most Two = omega arith
+
+pub first_23 : (xs : List ℕ) (input : Input) (words : List ℕ) → length xs ≡ 24
+    → take (length (first_bytes words (size_of input))) (map (λ (i : ℕ). get_or xs i 0) (range_with_len 0 23)) ≡ take (length (first_bytes words (size_of input))) xs
+first_23 xs input words long =
+    let f : ℕ → ℕ = λ i. get_or xs i 0 in
+    let n = length (first_bytes words (size_of input)) in
+    let few : n ≤ 23 = omega (arith, length-first_bytes words (size_of input), size_most input) in
+    take-map-range_with_len f 0 23 n few ∙ sym (ap (λ (ys : List ℕ). take n ys) (fill_by_all f xs 24 0 long (λ k l. refl)) ∙ take-map-range_with_len f 0 24 n (omega arith))

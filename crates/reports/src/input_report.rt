@@ -4,10 +4,11 @@ ghost use Rattle.std.specs.Prelude.{◌≡◌, ◌+◌, ◌*◌, ◌/◌, ◌%�
 ghost use Rattle.std.specs.Str.{bytes_eq};
 ghost use Rattle.layers.specs.Usages.{has_key, has_consumer};
 ghost use Rattle.reports.specs.Poll.{is_report};
-ghost use Rattle.reports.specs.representation.Words.{Packs};
+ghost use Rattle.reports.specs.representation.Words.{first_bytes};
 ghost use Rattle.reports.specs.Wanted.{wanted, boot_bytes, bitmap_bytes, consumer_bytes};
 
 use crate::bytes::{boot, consumer};
+use crate::words::{four, word};
 use crate::{Input, Report};
 use layers::Usages;
 use std::marker::Model;
@@ -54,7 +55,7 @@ impl InputReport {
     }
 
     /// The boot report of these usages.
-    pub(crate) fn boot(usages: &Usages) -> InputReport
+    pub fn boot(usages: &Usages) -> InputReport
         ensures { result ≡ boot_bytes (has_key usages.now) }
     {
         let [a, b, c, d, e, f, g, h] = boot(usages);
@@ -65,7 +66,7 @@ impl InputReport {
     }
 
     /// The report of ID 1 of these usages.
-    pub(crate) fn bitmap(usages: &Usages) -> InputReport
+    pub fn bitmap(usages: &Usages) -> InputReport
         ensures { result ≡ bitmap_bytes (has_key usages.now) }
     {
         let [a, b, c, d, e, f, _, _] = usages.key_words();
@@ -83,7 +84,7 @@ impl InputReport {
     }
 
     /// The report of ID 2 of these usages.
-    pub(crate) fn consumer(usages: &Usages) -> InputReport
+    pub fn consumer(usages: &Usages) -> InputReport
         ensures { result ≡ consumer_bytes (has_consumer usages.now) }
     {
         let [a, b, c, d, e, f, g, h, i] = consumer(usages);
@@ -162,7 +163,7 @@ impl InputReport {
     }
 
     /// How many bytes it has.
-    pub(crate) fn length(&self) -> usize
+    pub(crate) fn length(&self) -> u8
         ensures value { result ≡ length self.now }
         ensures most { result ≤ 23 }
     {
@@ -173,85 +174,37 @@ impl InputReport {
         }
     }
 
+    /// Writes its bytes into a buffer, from the start, and returns how many they are.
+    pub(crate) fn fill(&self, report: &mut [u8; 23]) -> u8
+        ensures bytes { take result report.new ≡ self.now }
+        ensures room { result ≤ 23 }
+    {
+        *report = self.twenty_three();
+        self.length()
+    }
+
+    /// The words that its bytes lie in.
+    pub fn words(&self) -> [u32; 6]
+        ensures { first_bytes result (length self.now) ≡ self.now }
+    {
+        self.words
+    }
+
     /// The same bytes as a report.
     #[inline(never)]
     pub(crate) fn report(&self) -> Report
         ensures { result.items ≡ self.now }
     {
         let bytes = self.bytes();
-        report_of(&bytes[..self.length()])
+        report_of(&bytes[..usize::from(self.length())])
     }
 
-    /// Its bytes, where they are eight.
-    pub fn eight(&self) -> [u8; 8]
-        ensures { length self.now ≡ 8 → result ≡ self.now }
+    /// Its bytes, and zeros behind them where they are not 23.
+    pub(crate) fn twenty_three(&self) -> [u8; 23]
+        ensures whole { length self.now ≡ 23 → result ≡ self.now }
+        ensures first { take (length self.now) result ≡ self.now }
     {
-        let [
-            a,
-            b,
-            c,
-            d,
-            e,
-            f,
-            g,
-            h,
-            _,
-            _,
-            _,
-            _,
-            _,
-            _,
-            _,
-            _,
-            _,
-            _,
-            _,
-            _,
-            _,
-            _,
-            _,
-            _,
-        ] = self.bytes();
-        [a, b, c, d, e, f, g, h]
-    }
-
-    /// Its bytes, where they are nine.
-    pub fn nine(&self) -> [u8; 9]
-        ensures { length self.now ≡ 9 → result ≡ self.now }
-    {
-        let [
-            a,
-            b,
-            c,
-            d,
-            e,
-            f,
-            g,
-            h,
-            i,
-            _,
-            _,
-            _,
-            _,
-            _,
-            _,
-            _,
-            _,
-            _,
-            _,
-            _,
-            _,
-            _,
-            _,
-            _,
-        ] = self.bytes();
-        [a, b, c, d, e, f, g, h, i]
-    }
-
-    /// Its bytes, where they are 23.
-    pub fn twenty_three(&self) -> [u8; 23]
-        ensures { length self.now ≡ 23 → result ≡ self.now }
-    {
+        let _input = &self.input;
         let [
             a,
             b,
@@ -294,25 +247,6 @@ fn are_one(a: Input, b: Input) -> bool
         Input::One => matches!(b, Input::One),
         Input::Two => matches!(b, Input::Two),
     }
-}
-
-/// Four bytes as a word, the first in the low bits.
-fn word(a: u8, b: u8, c: u8, d: u8) -> u32
-    ensures { Packs result a b c d }
-{
-    a as u32 + 0x100 * b as u32 + 0x1_0000 * c as u32 + 0x100_0000 * d as u32
-}
-
-/// The four bytes of a word.
-fn four(word: u32) -> [u8; 4]
-    ensures { result ≡ word / 2 ^ 0 % 256 ∷ word / 2 ^ 8 % 256 ∷ word / 2 ^ 16 % 256 ∷ word / 2 ^ 24 % 256 ∷ [] }
-{
-    [
-        (word % 0x100) as u8,
-        (word / 0x100 % 0x100) as u8,
-        (word / 0x1_0000 % 0x100) as u8,
-        (word / 0x100_0000) as u8,
-    ]
 }
 
 /// The first word of the report of ID 1, from the modifiers and the usages 00h to 1Fh.

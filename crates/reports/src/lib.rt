@@ -16,6 +16,7 @@ pub mod poller;
 mod queue;
 mod sent;
 pub mod theorems;
+pub mod words;
 
 pub use bytes::{bitmap, boot, consumer};
 pub use input_report::InputReport;

@@ -1,6 +1,6 @@
 //! Which report a poll of the interrupt endpoint sends.
 
-ghost use Rattle.std.specs.Prelude.{◌≡◌, ◌||◌, ◌∷◌, [], ℕ, List, Option, Some, None, Bool, true, false, slice_get, drop, IfOk};
+ghost use Rattle.std.specs.Prelude.{◌≡◌, ◌≤◌, ◌||◌, ◌∷◌, [], ℕ, List, Option, Some, None, Bool, true, false, slice_get, take, drop, IfOk, IfSome};
 ghost use Rattle.std.specs.Option.{option_map};
 ghost use Rattle.reports.specs.declared.Input.{Input};
 ghost use Rattle.reports.specs.declared.Protocol.{Protocol};
@@ -209,6 +209,35 @@ impl Poller {
             → Refines past self.old → option_map (λ r. r.items) result ≡ poll_answer protocol bytes past }
         ensures made { SameMade self.old self.new }
     {
+        match self.send(protocol) {
+            Some(sent) => Some(sent.report()),
+            None => None,
+        }
+    }
+
+    /// `poll_made` into a buffer: it writes the report from the start of `report`, and returns how many
+    /// bytes it has.
+    pub fn poll_into(&mut self, protocol: Protocol, report: &mut [u8; 23]) -> Option<u8>
+        ensures refines { (past : List PollerCall) → Refines past self.old
+            → Refines (polled protocol (option_map (λ n. take n report.new) result) ∷ past) self.new }
+        ensures answer { (past : List PollerCall) (bytes : Input → List ℕ) → IsMadeFor protocol bytes self.old
+            → Refines past self.old → option_map (λ n. take n report.new) result ≡ poll_answer protocol bytes past }
+        ensures room { IfSome result (λ n. n ≤ 23) }
+        ensures made { SameMade self.old self.new }
+    {
+        match self.send(protocol) {
+            Some(sent) => Some(sent.fill(report)),
+            None => None,
+        }
+    }
+
+    /// Sends the report that has waited longest, else what the poll rule sends.
+    fn send(&mut self, protocol: Protocol) -> Option<InputReport>
+        ensures refines { (past : List PollerCall) → Refines past self.old → Refines (polled protocol result ∷ past) self.new }
+        ensures answer { (past : List PollerCall) (bytes : Input → List ℕ) → IsMadeFor protocol bytes self.old
+            → Refines past self.old → result ≡ poll_answer protocol bytes past }
+        ensures made { SameMade self.old self.new }
+    {
         if self.queue.is_empty() {
             self.send_due(protocol)
         } else {
@@ -217,37 +246,35 @@ impl Poller {
     }
 
     /// Sends the report that has waited longest, if one waits.
-    fn send_front(&mut self) -> Option<Report>
+    fn send_front(&mut self) -> Option<InputReport>
         ensures rule { (past : List PollerCall) (protocol : Protocol) → RuleRefines past self.old
-            → RuleRefines (polled protocol (option_map (λ r. r.items) result) ∷ past) self.new }
-        ensures front { option_map (λ r. r.items) result ≡ slice_get self.old.queue 0 }
+            → RuleRefines (polled protocol result ∷ past) self.new }
+        ensures front { result ≡ slice_get self.old.queue 0 }
         ensures queue { self.new.queue ≡ drop 1 self.old.queue }
         ensures made { SameMade self.old self.new }
     {
         match self.queue.pop() {
             Some(front) => {
-                let report = front.report();
-                self.count_as_sent(front);
-                Some(report)
+                self.count_as_sent(front.copy());
+                Some(front)
             },
             None => None,
         }
     }
 
     /// Sends what the poll rule sends where no report waits.
-    fn send_due(&mut self, protocol: Protocol) -> Option<Report>
+    fn send_due(&mut self, protocol: Protocol) -> Option<InputReport>
         ensures rule { (past : List PollerCall) → RuleRefines past self.old
-            → RuleRefines (polled protocol (option_map (λ r. r.items) result) ∷ past) self.new }
+            → RuleRefines (polled protocol result ∷ past) self.new }
         ensures answer { (past : List PollerCall) (bytes : Input → List ℕ) → IsMadeFor protocol bytes self.old
-            → RuleRefines past self.old → option_map (λ r. r.items) result ≡ rule_answer protocol bytes past }
+            → RuleRefines past self.old → result ≡ rule_answer protocol bytes past }
         ensures queue { self.new.queue ≡ self.old.queue }
         ensures made { SameMade self.old self.new }
     {
         match self.due(protocol) {
             Some(due) => {
-                let report = due.report();
-                self.count_as_sent(due);
-                Some(report)
+                self.count_as_sent(due.copy());
+                Some(due)
             },
             None => None,
         }

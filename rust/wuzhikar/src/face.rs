@@ -116,6 +116,11 @@ impl<F: NorFlash, D: Defaults> FlashKeyboard<F, D> {
         self.keyboard.setup(packet);
     }
 
+    /// Takes a SETUP packet as `setup` does, where it lies ([`Keyboard::setup_at`]).
+    pub fn setup_at(&mut self, packet: &[u8; 8]) {
+        self.keyboard.setup_at(packet);
+    }
+
     /// Takes an OUT packet of endpoint 0, of 0 to 8 bytes, and answers ACK, NAK or STALL ([`Keyboard::out`]).
     pub fn out(&mut self, packet: &[u8]) -> EpAnswer {
         self.keyboard.out(packet)
@@ -151,6 +156,30 @@ impl<F: NorFlash, D: Defaults> FlashKeyboard<F, D> {
     /// Answers an IN token of endpoint 1 with a report of 8, 9 or 23 bytes; `None` is NAK ([`Keyboard::poll`]).
     pub fn poll(&mut self) -> Option<Report> {
         self.keyboard.poll()
+    }
+
+    /// Answers an IN token of endpoint 1 as `poll` does, writes the report into `report`, and returns how many bytes it has
+    /// ([`Keyboard::poll_into`]). With `setup_at` and `in_packet_into` no code that copies memory is linked for a keyboard.
+    ///
+    /// ```
+    /// # fn main() -> Result<(), Box<dyn core::error::Error>> {
+    /// # #[cfg(feature = "sim")]
+    /// # {
+    /// use wuzhikar::{FlashKeyboard, Scan, SimFlash};
+    ///
+    /// let mut keyboard = FlashKeyboard::start(SimFlash::blank(2)?)?;
+    /// for _ in 0..5 {
+    ///     keyboard.scan(Scan { rows: [1, 0, 0, 0, 0, 0] });
+    /// }
+    /// let mut report = [0; 23];
+    /// assert_eq!(keyboard.poll_into(&mut report), Some(23));
+    /// assert_eq!(report[..3], [1, 0, 1]);
+    /// # }
+    /// # Ok(())
+    /// # }
+    /// ```
+    pub fn poll_into(&mut self, report: &mut [u8; 23]) -> Option<u8> {
+        self.keyboard.poll_into(report)
     }
 
     /// Makes the next flash operation of a command, one at most ([`Keyboard::work`]).

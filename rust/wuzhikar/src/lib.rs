@@ -131,14 +131,14 @@ pub mod debounce {
 /// #     fn idle_one(&self) -> u8 { 0 }
 /// #     fn idle_two(&self) -> u8 { 0 }
 /// #     fn feature(&self) -> [u8; 6] { [3, 0, 0, 0, 4, 0] }
-/// #     fn bitmap(&self) -> [u8; 23] { [1; 23] }
-/// #     fn consumer(&self) -> [u8; 9] { [2; 9] }
-/// #     fn boot(&self) -> [u8; 8] { [0; 8] }
+/// #     fn bitmap(&self) -> [u32; 6] { [1, 0, 0, 0, 0, 0] }
+/// #     fn consumer(&self) -> [u32; 6] { [2, 0, 0, 0, 0, 0] }
+/// #     fn boot(&self) -> [u32; 6] { [0; 6] }
 /// }
 ///
 /// let mut endpoint = ControlEp::new();
 /// // GET_REPORT of the LEDs, output report 1.
-/// endpoint.setup_from([0xa1, 0x01, 1, 2, 0, 0, 2, 0], &Device { leds: 0b10 });
+/// endpoint.setup_from(&[0xa1, 0x01, 1, 2, 0, 0, 2, 0], &Device { leds: 0b10 });
 /// assert_eq!(endpoint.in_packet(), (EpAnswer::Packet([1, 0b10].into_iter().collect()), Effect::Nothing));
 /// ```
 pub mod control_ep {

@@ -1,6 +1,6 @@
 -- Representation: a read, wherever its bytes are.
 use Rattle.shapes.specs.Shapes.{Bytes}
-use Rattle.std.specs.Prelude.{ℕ, ◌≡◌, ◌≤◌, ◌*◌, length, take, drop}
+use Rattle.std.specs.Prelude.{ℕ, ◌≡◌, ◌≤◌, ◌*◌, ◌%◌, List, length}
 use Rattle.descriptor_build.specs.Served.{device_bytes, configuration_bytes, hid_bytes, report_bytes}
 use Rattle.control_ep.specs.declared.data.Descriptor.{Descriptor}
 use Rattle.control_ep.specs.declared.data.Descriptor.TheVariants.{Device, Configuration, Hid, Report}
@@ -19,11 +19,12 @@ descriptor_bytes Configuration = configuration_bytes
 descriptor_bytes Hid = hid_bytes
 descriptor_bytes Report = report_bytes
 
-abbrev pub source_bytes : Source → Bytes → Bytes
-source_bytes (Lent descriptor left) copy = descriptor_bytes descriptor
-source_bytes Copied copy = copy
+-- the words that its bytes lie in
+abbrev pub words_in : Source → List ℕ → List ℕ
+words_in (Lent words) copy = words.now
+words_in Copied copy = copy
 
--- a whole packet that is left of a descriptor is the next one
-abbrev pub IsLeft : Source → ℕ → ℕ → Type 0
-IsLeft (Lent descriptor left) asked sent = 8 ≤ length left.now → left.now ≡ drop (8 * sent) (take asked (descriptor_bytes descriptor))
-IsLeft Copied asked sent = Unit {0}
+-- so many bytes lie in words, two to a packet
+pub record Fits (words : List ℕ) (n : ℕ) : Type 0 where
+  pub enough : n ≤ 4 * length words
+  pub even : length words % 2 ≡ 0

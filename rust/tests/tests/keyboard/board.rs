@@ -62,11 +62,15 @@ impl<D: Defaults> BoardOf<D> {
 
     fn take(&mut self, ask: &str) -> String {
         match word(ask) {
-            ("setup", packet) => self.keyboard.setup(bytes(packet).try_into().expect("eight bytes")),
+            ("setup", packet) => self.keyboard.setup_at(&bytes(packet).try_into().expect("eight bytes")),
             ("out", packet) => return answered(&self.keyboard.out(&repeated(packet))),
             ("in", _) => return answered(&self.keyboard.in_packet()),
             ("scans", rest) => self.scans(rest),
-            ("poll", _) => return self.keyboard.poll().map_or("nak".into(), |report| hex(&report)),
+            ("poll", _) => {
+                let mut report = [0; 23];
+                let length = self.keyboard.poll_into(&mut report);
+                return length.map_or("nak".into(), |length| hex(&report[..usize::from(length)]));
+            }
             ("work", _) => return format!("{:?}", self.work(None)).to_lowercase(),
             ("cut", _) => self.cut(),
             ("usage", usage) => return hex(&[u8::from(self.keyboard.usages().has_key(bytes(usage)[0]))]),

@@ -23,10 +23,10 @@ mod answer;
 mod data;
 mod device;
 mod endpoint;
-mod packets;
 mod report;
 mod request;
 mod why;
+mod words;
 
 pub use answer::{DeviceView, Effect, EpAnswer, InAnswer, OutAnswer, OutStep, Received, Verdict};
 pub use device::DeviceReports;

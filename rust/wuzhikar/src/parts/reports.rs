@@ -15,6 +15,7 @@ pub mod input_report;
 pub mod poller;
 mod queue;
 mod sent;
+pub mod words;
 
 pub use bytes::{bitmap, boot, consumer};
 pub use input_report::InputReport;

@@ -1,9 +1,8 @@
 // Exported from crates/control_ep/src/data.rt by bin/export-rust. Edit that file instead.
-//! The bytes that a read sends.
+//! The bytes that a read sends, as words, two to a packet.
 
-use crate::parts::control_ep::packets::write_packet;
-use arrayvec::ArrayVec;
-use crate::parts::descriptor_build::{CONFIGURATION, DEVICE, HID, SERVED_REPORT};
+use crate::parts::control_ep::words::{CONFIGURATION_WORDS, DEVICE_WORDS, HID_WORDS, REPORT_WORDS};
+use crate::parts::reports::words::{four, word};
 
 /// The descriptors, which are constants.
 #[derive(Clone, Copy, Debug)]
@@ -18,28 +17,13 @@ pub(crate) enum Descriptor {
     Report,
 }
 
-impl Descriptor {
-    /// Its bytes.
-    fn bytes(self) -> &'static [u8] {
-        match self {
-            Descriptor::Device => &DEVICE,
-            Descriptor::Configuration => &CONFIGURATION,
-            Descriptor::Hid => &HID,
-            Descriptor::Report => &SERVED_REPORT,
-        }
-    }
-}
-
-/// The room of a copy: the bytes of the longest report.
-const ROOM: usize = 23;
-
-/// Where the bytes are.
+/// Where the words are.
 #[derive(Clone, Copy, Debug)]
 pub(crate) enum Source {
-    /// A report, as it was at its SETUP packet: the bytes of the copy.
+    /// A report, as it was at its SETUP packet: the words of the copy.
     Copied,
-    /// A descriptor; and what is left of it, once a read has begun.
-    Lent(Descriptor, &'static [u8]),
+    /// A descriptor.
+    Lent(&'static [u32]),
 }
 
 impl Source {
@@ -51,14 +35,15 @@ impl Source {
 #[derive(Debug)]
 pub(crate) struct ReadData {
     source: Source,
-    copy: ArrayVec<u8, ROOM>,
+    copy: [u32; 6],
+    length: u8,
+    sent: u8,
     asked: u16,
-    sent: u16,
 }
 
 impl ReadData {
     /// Zeros, where memory waits for a keyboard to start there.
-    pub(crate) const UNSTARTED: Self = ReadData { source: Source::UNSTARTED, copy: ArrayVec::new_const(), asked: 0, sent: 0 };
+    pub(crate) const UNSTARTED: Self = ReadData { source: Source::UNSTARTED, copy: [0; 6], length: 0, sent: 0, asked: 0 };
 }
 
 impl ReadData {
@@ -66,58 +51,85 @@ impl ReadData {
     pub(crate) fn new() -> ReadData {
         ReadData {
             source: Source::Copied,
-            copy: ArrayVec::new(),
-            asked: 0,
+            copy: [0; 6],
+            length: 0,
             sent: 0,
+            asked: 0,
         }
     }
 
     /// Takes a descriptor, for a read that begins.
     pub(crate) fn lend(&mut self, descriptor: Descriptor) {
-        self.source = Source::Lent(descriptor, &[]);
+        match descriptor {
+            Descriptor::Device => self.lend_words(&DEVICE_WORDS, 18),
+            Descriptor::Configuration => self.lend_words(&CONFIGURATION_WORDS, 34),
+            Descriptor::Hid => self.lend_words(&HID_WORDS, 9),
+            Descriptor::Report => self.lend_words(&REPORT_WORDS, 99),
+        }
     }
 
-    /// Takes a copy of these bytes, at most 23, for a read that begins.
-    pub(crate) fn copy(&mut self, bytes: &[u8]) {
+    /// Takes the first bytes of constant words.
+    fn lend_words(&mut self, words: &'static [u32], length: u8) {
+        self.source = Source::Lent(words);
+        self.length = length;
+    }
+
+    /// Takes a copy of the first bytes of these words, at most 24, for a read that begins.
+    pub(crate) fn copy(&mut self, words: [u32; 6], length: u8) {
         self.source = Source::Copied;
-        self.copy.clear();
-        let _full = self.copy.try_extend_from_slice(bytes);
+        self.copy = words;
+        self.length = length;
+    }
+
+    /// Takes a copy of the first of these bytes, for a read that begins.
+    pub(crate) fn copy_first(&mut self, bytes: [u8; 8], length: u8) {
+        let [a, b, c, d, e, f, g, h] = bytes;
+        self.source = Source::Copied;
+        self.copy[0] = word(a, b, c, d);
+        self.copy[1] = word(e, f, g, h);
+        self.length = length;
+    }
+
+    /// Takes a byte, for a read that begins.
+    pub(crate) fn copy_byte(&mut self, byte: u8) {
+        self.copy_first([byte, 0, 0, 0, 0, 0, 0, 0], 1);
     }
 
     /// Begins a read that asked for so many bytes.
     pub(crate) fn begin(&mut self, asked: u16) {
-        if let Source::Lent(descriptor, _) = self.source {
-            let bytes = descriptor.bytes();
-            self.source = Source::Lent(descriptor, &bytes[..bytes.len().min(usize::from(asked))]);
-        }
         self.asked = asked;
         self.sent = 0;
     }
 
-    /// Writes the next packet, and returns how many bytes it has; none where all were sent. A whole packet
-    /// of a descriptor is cut off what is left of it.
+    /// Writes the next packet, and returns how many bytes it has; none where all were sent. Behind a short
+    /// packet the buffer has what the words have.
     pub(crate) fn next_packet(&mut self, packet: &mut [u8; 8]) -> Option<u8> {
-        let _asked = self.asked;
-        if let Source::Lent(descriptor, left) = self.source {
-            if let Some((full, after)) = left.split_first_chunk::<8>() {
-                self.source = Source::Lent(descriptor, after);
-                self.sent += 1;
-                *packet = *full;
-                return Some(8);
-            }
-        }
-        let length = write_packet(self.as_slice(), self.asked, self.sent, packet);
-        if length.is_some() {
+        let total = u16::from(self.length).min(self.asked);
+        let start = 8 * u16::from(self.sent);
+        if start < total {
+            *packet = eight_at(words_in(self.source, &self.copy), 2 * self.sent);
             self.sent += 1;
+            Some((total - start).min(8) as u8)
+        } else if start == total && total < self.asked {
+            self.sent += 1;
+            Some(0)
+        } else {
+            None
         }
-        length
     }
+}
 
-    /// The bytes.
-    fn as_slice(&self) -> &[u8] {
-        match self.source {
-            Source::Lent(descriptor, _) => descriptor.bytes(),
-            Source::Copied => self.copy.as_slice(),
-        }
+/// The words, wherever they are.
+fn words_in(source: Source, copy: &[u32; 6]) -> &[u32] {
+    match source {
+        Source::Lent(words) => words,
+        Source::Copied => copy,
     }
+}
+
+/// The bytes of two words: those of a packet.
+fn eight_at(words: &[u32], place: u8) -> [u8; 8] {
+    let [a, b, c, d] = four(words[place as usize]);
+    let [e, f, g, h] = four(words[(place + 1) as usize]);
+    [a, b, c, d, e, f, g, h]
 }

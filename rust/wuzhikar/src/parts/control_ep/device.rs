@@ -3,6 +3,7 @@
 
 use crate::parts::control_ep::DeviceView;
 use crate::parts::reports::Protocol;
+use crate::parts::reports::words::words_of;
 
 /// A device that a SETUP packet is answered from. Each part is asked for only where the packet reads it,
 /// so that a report's bytes need not be there before.
@@ -22,14 +23,14 @@ pub trait DeviceReports {
     /// The feature report: its Report ID 3, 0, layer, key, code low, code high.
     fn feature(&self) -> [u8; 6];
 
-    /// The input report of Report ID 1, with the ID.
-    fn bitmap(&self) -> [u8; 23];
+    /// The input report of Report ID 1, with the ID: 23 bytes, four to a word, the first in the low bits.
+    fn bitmap(&self) -> [u32; 6];
 
-    /// The input report of Report ID 2, with the ID.
-    fn consumer(&self) -> [u8; 9];
+    /// The input report of Report ID 2, with the ID: 9 bytes, likewise.
+    fn consumer(&self) -> [u32; 6];
 
-    /// The boot input report.
-    fn boot(&self) -> [u8; 8];
+    /// The boot input report: 8 bytes, likewise.
+    fn boot(&self) -> [u32; 6];
 }
 
 impl DeviceReports for DeviceView {
@@ -53,15 +54,15 @@ impl DeviceReports for DeviceView {
         self.feature
     }
 
-    fn bitmap(&self) -> [u8; 23] {
-        self.bitmap
+    fn bitmap(&self) -> [u32; 6] {
+        words_of(&self.bitmap)
     }
 
-    fn consumer(&self) -> [u8; 9] {
-        self.consumer
+    fn consumer(&self) -> [u32; 6] {
+        words_of(&self.consumer)
     }
 
-    fn boot(&self) -> [u8; 8] {
-        self.boot
+    fn boot(&self) -> [u32; 6] {
+        words_of(&self.boot)
     }
 }

@@ -75,12 +75,12 @@ impl ControlEp {
     /// wValue names none; `WrongLength` where wLength is not the report's length in SET_REPORT, or not 0
     /// in SET_IDLE and SET_PROTOCOL.
     pub fn setup(&mut self, setup: [u8; 8], view: &DeviceView) {
-        self.setup_from(setup, view);
+        self.setup_from(&setup, view);
     }
 
-    /// Takes a SETUP packet as `setup` does, for a device that is asked for what is read, and for nothing
-    /// else.
-    pub fn setup_from<D: DeviceReports>(&mut self, setup: [u8; 8], device: &D) {
+    /// Takes a SETUP packet as `setup` does, where it lies, for a device that is asked for what is read, and
+    /// for nothing else.
+    pub fn setup_from<D: DeviceReports>(&mut self, setup: &[u8; 8], device: &D) {
         self.begin(setup, device);
     }
 
@@ -155,7 +155,7 @@ impl ControlEp {
     }
 
     /// Begins the transfer that a SETUP packet asks for, or stalls it.
-    fn begin<D: DeviceReports>(&mut self, setup: [u8; 8], device: &D) {
+    fn begin<D: DeviceReports>(&mut self, setup: &[u8; 8], device: &D) {
         let request = Request::read(setup);
         self.stage = match request.transfer(device, &mut self.read) {
             Ok(transfer) => first_stage(transfer, request.length, &mut self.read),

@@ -44,7 +44,7 @@ pub(crate) enum Transfer {
 
 impl Request {
     /// The fields of a SETUP packet's bytes.
-    pub(crate) fn read(setup: [u8; 8]) -> Request {
+    pub(crate) fn read(setup: &[u8; 8]) -> Request {
         let [
             kind,
             code,
@@ -54,7 +54,7 @@ impl Request {
             index_high,
             length_low,
             length_high,
-        ] = setup;
+        ] = *setup;
         Request {
             kind,
             code,
@@ -97,7 +97,7 @@ impl Request {
             (0xA1, 0x01) => Some(get_report(self.value, device, read)),
             (0xA1, 0x02) => Some(get_idle(self.value, device, read)),
             (0xA1, 0x03) => {
-                read.copy(&[protocol_byte(device.protocol())]);
+                read.copy_byte(protocol_byte(device.protocol()));
                 Some(Ok(Transfer::Reads))
             }
             (0x21, 0x09) => Some(set_report(self.value, device.protocol())),
@@ -158,12 +158,15 @@ fn get_report<D: DeviceReports>(
     read: &mut ReadData,
 ) -> Result<Transfer, Why> {
     match (device.protocol(), value) {
-        (Protocol::Report, 0x0101) => read.copy(&device.bitmap()),
-        (Protocol::Report, 0x0102) => read.copy(&device.consumer()),
-        (Protocol::Report, 0x0201) => read.copy(&[0x01, device.leds()]),
-        (Protocol::Boot, 0x0100) => read.copy(&device.boot()),
-        (Protocol::Boot, 0x0200) => read.copy(&[device.leds()]),
-        (_, 0x0303) => read.copy(&device.feature()),
+        (Protocol::Report, 0x0101) => read.copy(device.bitmap(), 23),
+        (Protocol::Report, 0x0102) => read.copy(device.consumer(), 9),
+        (Protocol::Report, 0x0201) => read.copy_first([0x01, device.leds(), 0, 0, 0, 0, 0, 0], 2),
+        (Protocol::Boot, 0x0100) => read.copy(device.boot(), 8),
+        (Protocol::Boot, 0x0200) => read.copy_byte(device.leds()),
+        (_, 0x0303) => {
+            let [a, b, c, d, e, f] = device.feature();
+            read.copy_first([a, b, c, d, e, f, 0, 0], 6);
+        }
         _ => return Err(Why::UnknownReport),
     }
     Ok(Transfer::Reads)
@@ -172,8 +175,8 @@ fn get_report<D: DeviceReports>(
 /// GET_IDLE (HID 1.11 section 7.2.3).
 fn get_idle<D: DeviceReports>(value: u16, device: &D, read: &mut ReadData) -> Result<Transfer, Why> {
     match value {
-        0x0000 | 0x0001 => read.copy(&[device.idle_one()]),
-        0x0002 => read.copy(&[device.idle_two()]),
+        0x0000 | 0x0001 => read.copy_byte(device.idle_one()),
+        0x0002 => read.copy_byte(device.idle_two()),
         _ => return Err(Why::UnknownReport),
     }
     Ok(Transfer::Reads)

@@ -4,7 +4,7 @@
 use crate::parts::key_reports::keys::{make_for, take_edges};
 use crate::parts::debounce::{KeySet, Matrix, Scan};
 use crate::parts::layers::{Defaults, Held, KeymapOf, Usages};
-use crate::parts::reports::{IdleId, Poller, Protocol, Report};
+use crate::parts::reports::{IdleId, InputReport, Poller, Protocol, Report};
 use crate::rattle::alloc::{AllocError, Global};
 
 /// The keys of the device, and what the host was sent of them.
@@ -71,33 +71,40 @@ impl KeyReports {
         self.poller.poll_made(protocol)
     }
 
+    /// `poll` into a buffer: it writes the report from the start of `report`, and returns how many bytes
+    /// it has.
+    pub fn poll_into(&mut self, protocol: Protocol, report: &mut [u8; 23]) -> Option<u8> {
+        make_for(&mut self.poller, &self.held, protocol);
+        self.poller.poll_into(protocol, report)
+    }
+
     /// The usages that the codes of the held keys name.
     pub fn usages(&self) -> Usages {
         self.held.usages()
     }
 
-    /// The bytes that the boot report has now. To ask for them sends nothing.
-    pub fn boot(&self) -> [u8; 8] {
+    /// The words of the boot report now (`InputReport::words`). To ask for them sends nothing.
+    pub fn boot(&self) -> [u32; 6] {
         if self.poller.is_made_for(Protocol::Boot) {
-            self.poller.made_boot().eight()
+            self.poller.made_boot().words()
         } else {
             self.boot_anew()
         }
     }
 
-    /// The bytes that the report of ID 1 has now. To ask for them sends nothing.
-    pub fn bitmap(&self) -> [u8; 23] {
+    /// The words of the report of ID 1 now. To ask for them sends nothing.
+    pub fn bitmap(&self) -> [u32; 6] {
         if self.poller.is_made_for(Protocol::Report) {
-            self.poller.made_bitmap().twenty_three()
+            self.poller.made_bitmap().words()
         } else {
             self.bitmap_anew()
         }
     }
 
-    /// The bytes that the report of ID 2 has now. To ask for them sends nothing.
-    pub fn consumer(&self) -> [u8; 9] {
+    /// The words of the report of ID 2 now. To ask for them sends nothing.
+    pub fn consumer(&self) -> [u32; 6] {
         if self.poller.is_made_for(Protocol::Report) {
-            self.poller.made_consumer().nine()
+            self.poller.made_consumer().words()
         } else {
             self.consumer_anew()
         }
@@ -126,21 +133,21 @@ impl KeyReports {
         self.poller.reset()
     }
 
-    /// The bytes of the boot report, made of the held keys. Rare.
+    /// The words of the boot report, made of the held keys. Rare.
     #[inline(never)]
-    fn boot_anew(&self) -> [u8; 8] {
-        crate::parts::reports::boot(self.held.lent())
+    fn boot_anew(&self) -> [u32; 6] {
+        InputReport::boot(self.held.lent()).words()
     }
 
-    /// The bytes of the report of ID 1, made of the held keys. Rare.
+    /// The words of the report of ID 1, made of the held keys. Rare.
     #[inline(never)]
-    fn bitmap_anew(&self) -> [u8; 23] {
-        crate::parts::reports::bitmap(self.held.lent())
+    fn bitmap_anew(&self) -> [u32; 6] {
+        InputReport::bitmap(self.held.lent()).words()
     }
 
-    /// The bytes of the report of ID 2, made of the held keys. Rare.
+    /// The words of the report of ID 2, made of the held keys. Rare.
     #[inline(never)]
-    fn consumer_anew(&self) -> [u8; 9] {
-        crate::parts::reports::consumer(self.held.lent())
+    fn consumer_anew(&self) -> [u32; 6] {
+        InputReport::consumer(self.held.lent()).words()
     }
 }

@@ -98,6 +98,11 @@ impl<D: Defaults> KeyboardOf<D> {
     /// way (USB 2.0 sections 8.5.3 and 9.3, HID 1.11 section 7). What is read is what the keyboard has
     /// now; the flash work goes on.
     pub fn setup(&mut self, packet: [u8; 8]) {
+        self.setup_at(&packet);
+    }
+
+    /// Takes a SETUP packet as `setup` does, where it lies.
+    pub fn setup_at(&mut self, packet: &[u8; 8]) {
         let shown = Shown {
             keys: &self.keys,
             store: &self.store,
@@ -149,6 +154,13 @@ impl<D: Defaults> KeyboardOf<D> {
     /// those last sent, else one whose idle time has passed since then, or `None`. It then counts as sent.
     pub fn poll(&mut self) -> Option<Report> {
         self.keys.poll(self.protocol)
+    }
+
+    /// Answers a poll of endpoint 1 as `poll` does, and writes the report into `report`, from the start. The
+    /// answer says how many bytes it has; what stands after them, and in a `report` that no poll answers,
+    /// means nothing.
+    pub fn poll_into(&mut self, report: &mut [u8; 23]) -> Option<u8> {
+        self.keys.poll_into(self.protocol, report)
     }
 
     /// **Needs** the flash that the keyboard last started or restarted on, as the keyboard left it. Nothing checks it: [`FlashKeyboard`](crate::FlashKeyboard) holds both.

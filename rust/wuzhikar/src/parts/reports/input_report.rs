@@ -2,6 +2,7 @@
 //! The bytes of an input report, four to a word.
 
 use crate::parts::reports::bytes::{boot, consumer};
+use crate::parts::reports::words::{four, word};
 use crate::parts::reports::{Input, Report};
 use crate::parts::layers::Usages;
 
@@ -39,7 +40,7 @@ impl InputReport {
     }
 
     /// The boot report of these usages.
-    pub(crate) fn boot(usages: &Usages) -> InputReport {
+    pub fn boot(usages: &Usages) -> InputReport {
         let [a, b, c, d, e, f, g, h] = boot(usages);
         InputReport {
             input: Input::Boot,
@@ -48,7 +49,7 @@ impl InputReport {
     }
 
     /// The report of ID 1 of these usages.
-    pub(crate) fn bitmap(usages: &Usages) -> InputReport {
+    pub fn bitmap(usages: &Usages) -> InputReport {
         let [a, b, c, d, e, f, _, _] = usages.key_words();
         InputReport {
             input: Input::One,
@@ -64,7 +65,7 @@ impl InputReport {
     }
 
     /// The report of ID 2 of these usages.
-    pub(crate) fn consumer(usages: &Usages) -> InputReport {
+    pub fn consumer(usages: &Usages) -> InputReport {
         let [a, b, c, d, e, f, g, h, i] = consumer(usages);
         InputReport {
             input: Input::Two,
@@ -133,7 +134,7 @@ impl InputReport {
     }
 
     /// How many bytes it has.
-    pub(crate) fn length(&self) -> usize {
+    pub(crate) fn length(&self) -> u8 {
         match self.input {
             Input::Boot => 8,
             Input::One => 23,
@@ -141,77 +142,27 @@ impl InputReport {
         }
     }
 
+    /// Writes its bytes into a buffer, from the start, and returns how many they are.
+    pub(crate) fn fill(&self, report: &mut [u8; 23]) -> u8 {
+        *report = self.twenty_three();
+        self.length()
+    }
+
+    /// The words that its bytes lie in.
+    pub fn words(&self) -> [u32; 6] {
+        self.words
+    }
+
     /// The same bytes as a report.
     #[inline(never)]
     pub(crate) fn report(&self) -> Report {
         let bytes = self.bytes();
-        report_of(&bytes[..self.length()])
+        report_of(&bytes[..usize::from(self.length())])
     }
 
-    /// Its bytes, where they are eight.
-    pub fn eight(&self) -> [u8; 8] {
-        let [
-            a,
-            b,
-            c,
-            d,
-            e,
-            f,
-            g,
-            h,
-            _,
-            _,
-            _,
-            _,
-            _,
-            _,
-            _,
-            _,
-            _,
-            _,
-            _,
-            _,
-            _,
-            _,
-            _,
-            _,
-        ] = self.bytes();
-        [a, b, c, d, e, f, g, h]
-    }
-
-    /// Its bytes, where they are nine.
-    pub fn nine(&self) -> [u8; 9] {
-        let [
-            a,
-            b,
-            c,
-            d,
-            e,
-            f,
-            g,
-            h,
-            i,
-            _,
-            _,
-            _,
-            _,
-            _,
-            _,
-            _,
-            _,
-            _,
-            _,
-            _,
-            _,
-            _,
-            _,
-            _,
-        ] = self.bytes();
-        [a, b, c, d, e, f, g, h, i]
-    }
-
-    /// Its bytes, where they are 23.
-    pub fn twenty_three(&self) -> [u8; 23] {
+    /// Its bytes, and zeros behind them where they are not 23.
+    pub(crate) fn twenty_three(&self) -> [u8; 23] {
+        let _input = &self.input;
         let [
             a,
             b,
@@ -251,21 +202,6 @@ fn are_one(a: Input, b: Input) -> bool {
         Input::One => matches!(b, Input::One),
         Input::Two => matches!(b, Input::Two),
     }
-}
-
-/// Four bytes as a word, the first in the low bits.
-fn word(a: u8, b: u8, c: u8, d: u8) -> u32 {
-    a as u32 + 0x100 * b as u32 + 0x1_0000 * c as u32 + 0x100_0000 * d as u32
-}
-
-/// The four bytes of a word.
-fn four(word: u32) -> [u8; 4] {
-    [
-        (word % 0x100) as u8,
-        (word / 0x100 % 0x100) as u8,
-        (word / 0x1_0000 % 0x100) as u8,
-        (word / 0x100_0000) as u8,
-    ]
 }
 
 /// The first word of the report of ID 1, from the modifiers and the usages 00h to 1Fh.

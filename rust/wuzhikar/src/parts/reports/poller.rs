@@ -132,6 +132,23 @@ impl Poller {
 
     /// `poll` for the usages that the bytes were made for: it looks at no bytes where nothing is due.
     pub fn poll_made(&mut self, protocol: Protocol) -> Option<Report> {
+        match self.send(protocol) {
+            Some(sent) => Some(sent.report()),
+            None => None,
+        }
+    }
+
+    /// `poll_made` into a buffer: it writes the report from the start of `report`, and returns how many
+    /// bytes it has.
+    pub fn poll_into(&mut self, protocol: Protocol, report: &mut [u8; 23]) -> Option<u8> {
+        match self.send(protocol) {
+            Some(sent) => Some(sent.fill(report)),
+            None => None,
+        }
+    }
+
+    /// Sends the report that has waited longest, else what the poll rule sends.
+    fn send(&mut self, protocol: Protocol) -> Option<InputReport> {
         if self.queue.is_empty() {
             self.send_due(protocol)
         } else {
@@ -140,24 +157,22 @@ impl Poller {
     }
 
     /// Sends the report that has waited longest, if one waits.
-    fn send_front(&mut self) -> Option<Report> {
+    fn send_front(&mut self) -> Option<InputReport> {
         match self.queue.pop() {
             Some(front) => {
-                let report = front.report();
-                self.count_as_sent(front);
-                Some(report)
+                self.count_as_sent(front.copy());
+                Some(front)
             },
             None => None,
         }
     }
 
     /// Sends what the poll rule sends where no report waits.
-    fn send_due(&mut self, protocol: Protocol) -> Option<Report> {
+    fn send_due(&mut self, protocol: Protocol) -> Option<InputReport> {
         match self.due(protocol) {
             Some(due) => {
-                let report = due.report();
-                self.count_as_sent(due);
-                Some(report)
+                self.count_as_sent(due.copy());
+                Some(due)
             },
             None => None,
         }

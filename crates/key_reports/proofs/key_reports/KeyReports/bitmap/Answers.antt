@@ -1,4 +1,4 @@
-use Rattle.std.proofs.Common.{◌∙◌}
+use Rattle.std.proofs.Common.{◌≡◌, ◌∙◌, length}
 use Rattle.reports.proofs.LayoutTheorems.{bitmap-layout}
 use Rattle.key_reports.specs.Past.{wanted_after, keys_after}
 use Rattle.key_reports.proofs.key_reports.KeyReports.bitmap.Goals as goal
@@ -8,7 +8,8 @@ pub returns-then-is_made_for : goal.returns-then-is_made_for
 returns-then-is_made_for c past s =
     let h = rw (← c.self.view_is) at s in
     let is = c.made_bitmap.ensures (wanted_after past) (c.is_made_for.ensures.made (wanted_after past) c.if-is_made_for.true h.made) in
-    c.twenty_three.ensures (rw is (bitmap-layout (keys_after past)).size) ∙ is
+    let size : length c.made_bitmap.result.now ≡ 23 = rw is (bitmap-layout (keys_after past)).size in
+    rw size at c.words.ensures ∙ is
 
 pub returns-else-is_made_for : goal.returns-else-is_made_for
 returns-else-is_made_for c = search rules

@@ -1,4 +1,4 @@
-use Rattle.std.proofs.Common.{◌∙◌}
+use Rattle.std.proofs.Common.{◌≡◌, ◌∙◌, length}
 use Rattle.reports.proofs.LayoutTheorems.{boot-layout}
 use Rattle.key_reports.specs.Past.{wanted_after, keys_after}
 use Rattle.key_reports.proofs.key_reports.KeyReports.boot.Goals as goal
@@ -7,4 +7,5 @@ pub returns-then-is_made_for : goal.returns-then-is_made_for
 returns-then-is_made_for c past s =
     let h = rw (← c.self.view_is) at s in
     let is = c.made_boot.ensures (wanted_after past) (c.is_made_for.ensures.made (wanted_after past) c.if-is_made_for.true h.made) in
-    c.eight.ensures (rw is (boot-layout (keys_after past)).size) ∙ is
+    let size : length c.made_boot.result.now ≡ 8 = rw is (boot-layout (keys_after past)).size in
+    rw size at c.words.ensures ∙ is

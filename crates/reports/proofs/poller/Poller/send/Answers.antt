@@ -3,7 +3,7 @@ use Rattle.reports.specs.Queue.{queue}
 use Rattle.reports.proofs.Made.{queue-poll_none, get_none, get_some}
 use Rattle.reports.proofs.Rule.{answer-front, answer-rule}
 use Rattle.reports.proofs.Waiting.{queue-poll}
-use Rattle.reports.proofs.poller.Poller.poll_made.Goals as goal
+use Rattle.reports.proofs.poller.Poller.send.Goals as goal
 
 pub returns-then-is_empty-clause-refines : goal.returns-then-is_empty-clause-refines
 returns-then-is_empty-clause-refines c past s =
