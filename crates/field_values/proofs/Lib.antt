@@ -1,6 +1,6 @@
 mod Writing
 pub mod NullLemmas
-mod Fractions
+pub mod Fractions
 pub mod Reading
 mod Filling
 pub mod Listing

@@ -4,7 +4,7 @@ use Rattle.std.specs.Prelude.{Option, All, IfSome, ℤ, pos, ◌+ℤ◌, int_lt,
 use Rattle.std.specs.Int.{int_gap}
 use Rattle.std.proofs.lemmas.Bool.{cases_Bool, cases_order, eqb-true}
 use Rattle.std.proofs.lemmas.Int.{ints}
-use Rattle.std.proofs.lemmas.Option.{slice_get-get_or}
+use Rattle.std.proofs.lemmas.Option.{slice_get-get_or, same_Some}
 use Rattle.std.proofs.lemmas.List.Elements.{All-nil, All-cons, All-same, All-map}
 use Rattle.std.proofs.lemmas.List.Quantifiers.{position-Some}
 use Rattle.descriptor_parse.specs.declared.field.Field.{Field}
@@ -33,9 +33,6 @@ use Rattle.report_write.proofs.ControlsFit.{by_usage, by_field, one_of, all_row}
 use Rattle.report_write.proofs.SettingsSet.{refused_by}
 use Rattle.report_write.proofs.UnusedNone.{gap_of}
 use Rattle.report_write.proofs.Untouched.{bit_stays}
-
-some_same : {X : Type 0} {a b : X} → Some a ≡ Some b → a ≡ b
-some_same e = cc
 
 -- ---- a usage that is meant is one of an Array
 
@@ -93,7 +90,7 @@ pub was_set : (d : DescriptorValue) (kept : List Kept) (settings : List Setting)
 was_set d kept settings start clear n setting at count bytes marks IsAfter.Begun l = absurd (omega arith)
 was_set d kept settings start clear n setting at count bytes marks (IsAfter.Next number other old new marks_old marks_new before here taken s) l =
     elim (cases_order n number) [
-      | inl same ↦ (let its : setting ≡ other = some_same (sym at ∙ ap (slice_get settings) same ∙ here) in
+      | inl same ↦ (let its : setting ≡ other = same_Some _ _ (sym at ∙ ap (slice_get settings) same ∙ here) in
           record {
             old = old;
             new = new;

@@ -21,6 +21,7 @@ use Rattle.report_write.proofs.UnusedLemmas.{is_zero}
 use Rattle.report_write.proofs.FilledHeld.{is_left, is_right, mapped}
 use Rattle.report_write.proofs.FilledHeld as filled
 use Rattle.report_write.proofs.ArraysCleared.{names_same}
+use Rattle.report_write.proofs.ArraysNamed.{by_list}
 
 none_if : (f : Field) (usages : List ℕ) (v : ℤ) → is_unused f usages v ≡ true → is_no_control (listed f usages v) ≡ true
 none_if f usages v e = is_right (is_held f.min f.size v) (is_no_control (listed f usages v)) e
@@ -55,9 +56,6 @@ not_usage (Some other) usage none some = elim (cases_Bool (other == usage)) [
       absurd (some (ap (λ k. k % 2 ^ 16) (sym is) ∙ zero)))
   | inr differs ↦ differs
 ]
-
-by_list : (array : Bool) (listed own : Option ℕ) → array ≡ true → (if array then listed else own) ≡ listed
-by_list array listed own a = rw a refl
 
 pub no_longer_named : (f : Field) (usages : List ℕ) (usage place : ℕ) (old new marks_old marks_new : List ℕ) → f.array ≡ true → usage % 2 ^ 16 ≢ 0
     → IsOff f usages usage old new marks_old marks_new → place < f.count → names f usages new usage place ≡ false

@@ -20,7 +20,7 @@ read_of : (o : Option ℕ) (usage : ℕ) → is_usage usage o ≡ true → o ≡
 read_of None usage e = absurd (cc)
 read_of (Some other) usage e = ap Some (eqb-true other usage e)
 
-by_list : (array : Bool) (in_list own : Option ℕ) → array ≡ true → (if array then in_list else own) ≡ in_list
+pub by_list : (array : Bool) (in_list own : Option ℕ) → array ≡ true → (if array then in_list else own) ≡ in_list
 by_list array in_list own a = rw a refl
 
 inside : (within : Bool) (o : Option ℕ) (usage : ℕ) → (if within then o else None) ≡ Some usage → (within ≡ true) × (o ≡ Some usage)

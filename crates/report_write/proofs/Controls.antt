@@ -2,7 +2,7 @@
 use Rattle.std.proofs.Common.{◌≡◌, ◌≢◌, ℕ, zero, suc, ◌+◌, ◌-◌, ◌<◌, ◌≤◌, Bool, true, false, List, [], ◌∷◌, ◌++◌, length, length-append, take, drop, get_or, drop-cons, arith, refl, sym, ◌∙◌, ap, inl, inr, Some, None}
 use Rattle.std.specs.Prelude.{Option, MatchOption, ◌==◌, if◌then◌else◌, slice_get, find, flat_map, map, is_some}
 use Rattle.std.proofs.lemmas.Bool.{eq-eqb, ne_eqb, lt-ltb, le-ltb}
-use Rattle.std.proofs.lemmas.Option.{slice_get_cases, slice_get_past, slice_get_within, slice_get-get_or, get_or_from_slice_get}
+use Rattle.std.proofs.lemmas.Option.{slice_get_cases, slice_get_past, slice_get_within, slice_get-get_or, get_or_from_slice_get, same_Some}
 use Rattle.std.proofs.lemmas.List.{append-nil, take_all, take_more, take-append-drop}
 use Rattle.std.proofs.lemmas.List.Concat.{get_or-flat_map}
 use Rattle.std.proofs.lemmas.List.Folds.{length-flat_map-take, find-append}
@@ -15,9 +15,6 @@ use Rattle.report_write.specs.declared.control.Control.TheVariants.{Place, Usage
 use Rattle.report_write.specs.Controls.{is_usage, number_of, places_with, controls_in, controls}
 
 -- ---- a usage in a list
-
-some_same : {X : Type 0} {a b : X} → Some a ≡ Some b → a ≡ b
-some_same e = cc
 
 differs : (usages : List ℕ) (usage k : ℕ) → k < length usages → slice_get usages k ≢ Some usage → (get_or usages k 0 == usage) ≡ false
 differs usages usage k l n = ne_eqb (get_or usages k 0) usage (λ e. n (slice_get-get_or usages k 0 l ∙ ap Some e))
@@ -109,7 +106,7 @@ its_places kept usages usage a = rw a refl
 
 pub mapped_at : {X A : Type 0} (f : X → A) (xs : List X) (i : ℕ) (x : X) → slice_get xs i ≡ Some x → slice_get (map f xs) i ≡ Some (f x)
 mapped_at f [] i x e = cc
-mapped_at f (y ∷ ys) zero x e = ap (λ z. Some (f z)) (some_same e)
+mapped_at f (y ∷ ys) zero x e = ap (λ z. Some (f z)) (same_Some _ _ e)
 mapped_at f (y ∷ ys) (suc i) x e = mapped_at f ys i x e
 
 pub controls_are : (d : DescriptorValue) (usage : ℕ) (kept : List Kept)

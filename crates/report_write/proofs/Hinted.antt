@@ -4,6 +4,7 @@ use Rattle.std.specs.Prelude.{◌⊎◌, Option, min, slice_get, slice_index_or,
 use Rattle.std.proofs.lemmas.Bool.{cases_lt, cases_Bool, ne_eqb, lt-ltb, le-ltb}
 use Rattle.std.proofs.lemmas.List.Concat.{flat_map-cons}
 use Rattle.std.proofs.lemmas.List.{append-nil, take_all, drop_all}
+use Rattle.std.proofs.lemmas.Option.{same_Some}
 use Rattle.descriptor_parse.specs.declared.field.Field.{Field}
 use Rattle.descriptor_parse.specs.Descriptor.{DescriptorValue, ranges_at, usage_list, usage_of_place}
 use Rattle.field_values.specs.Lists.{IsUnlisted}
@@ -16,9 +17,6 @@ use Rattle.report_write.specs.representation.Hints.{least_of, IsFrom, AreFrom, A
 use Rattle.report_write.specs.representation.Walks.{IsPlaceOf}
 use Rattle.report_write.proofs.Controls.{not_listed, no_usage, its_places}
 use Rattle.report_write.proofs.Walked.{counted, reach, none_yet, range_skipped}
-
-some_is : {X : Type 0} {a b : X} → Some a ≡ Some b → a ≡ b
-some_is e = cc
 
 -- ---- ranges that do not have a usage
 
@@ -161,7 +159,7 @@ more_hints d kept fields ranges new_fields new_ranges count k here before ff fr 
           let two = fr usage in
           (omega (arith, one, old.0), omega (arith, two, old.1)))
       | inr high ↦ (let same : number ≡ count = omega arith in
-          let one : k ≡ other = some_is (sym here ∙ (rw same at at)) in
+          let one : k ≡ other = same_Some _ _ (sym here ∙ (rw same at at)) in
           let its_ = rw (← one) at its in
           let new = noted range usage its_.within its_.least its_.most in
           rw same new)

@@ -1,9 +1,9 @@
 -- What stays known of the places of an Array.
 use Rattle.std.proofs.Common.{◌≡◌, ◌≢◌, ℕ, zero, suc, ◌+◌, ◌<◌, ◌≤◌, Bool, true, false, List, [], ◌∷◌, length, arith, refl, sym, ◌∙◌, ap, inl, inr, Some, None}
 use Rattle.std.specs.Prelude.{Option, All, IfSome, ℤ, slice_get, map, is_some, pos, ◌+ℤ◌, int_lt, not, min}
-use Rattle.std.proofs.lemmas.Option.{slice_get-get_or, slice_get_within}
+use Rattle.std.proofs.lemmas.Option.{slice_get-get_or, slice_get_within, same_Some}
 use Rattle.std.proofs.lemmas.List.Elements.{All-nil, All-cons, All-append, All-same, All-map}
-use Rattle.std.proofs.lemmas.Bool.{cases_lt, cases_Bool, cases_order, eqb-true, eq-eqb, lt-ltb, le-ltb}
+use Rattle.std.proofs.lemmas.Bool.{cases_lt, cases_Bool, cases_order, eqb-true, eq-eqb, lt-ltb, le-ltb, false_from_ne_true}
 use Rattle.descriptor_parse.specs.declared.field.Field.{Field}
 use Rattle.descriptor_parse.specs.Descriptor.{DescriptorValue, ranges_at, usage_list}
 use Rattle.host_extract.specs.Found.{value_at}
@@ -96,14 +96,10 @@ known_from f usages bytes marks free named place k none = record {
   noted = k.noted;
 }
 
-not_true : (b : Bool) → (b ≡ true → ⊥) → b ≡ false
-not_true true n = absurd (n refl)
-not_true false n = refl
-
 -- none of the first places passes
 pub none_under : (test : ℕ → Bool) (count from : ℕ) → ((place : ℕ) → place < count → test place ≡ true → from ≤ place)
     → first test (min from count) ≡ None
-none_under test count from h = none_more test 0 (min from count) (no_first test) (omega arith) (λ k l m. not_true (test k) (λ e. let n = h k (omega arith) e in absurd (omega arith)))
+none_under test count from h = none_more test 0 (min from count) (no_first test) (omega arith) (λ k l m. false_from_ne_true (test k) (λ e. let n = h k (omega arith) e in absurd (omega arith)))
 
 pub none_taken : (test : ℕ → Bool) (count from : ℕ) → ((place : ℕ) → place < from → place < count → test place ≡ false)
     → first test (min from count) ≡ None
@@ -151,15 +147,12 @@ all_its d null_states kind id (suc count) =
     All-append (λ k. slice_get d.fields k.number ≡ Some k.field) (kept_below d null_states kind id count) (kept_if null_states kind id count (slice_get d.fields count))
     (all_its d null_states kind id count) (its d null_states kind id count (slice_get d.fields count) refl)
 
-some_same : {X : Type 0} {a b : X} → Some a ≡ Some b → a ≡ b
-some_same e = cc
-
 pub are_one : (d : DescriptorValue) (null_states : List Bool) (kind : Kind) (id : ℕ) → AreOne (kept_fields d null_states kind id)
 are_one d null_states kind id = λ i j one other at at_other same.
     let all = all_its d null_states kind id (length d.fields) in
     let a : slice_get d.fields one.number ≡ Some one.field = rw at at (one_of (λ k. slice_get d.fields k.number ≡ Some k.field) (kept_fields d null_states kind id) i all) in
     let b : slice_get d.fields other.number ≡ Some other.field = rw at_other at (one_of (λ k. slice_get d.fields k.number ≡ Some k.field) (kept_fields d null_states kind id) j all) in
-    some_same (sym a ∙ ap (slice_get d.fields) same ∙ b)
+    same_Some _ _ (sym a ∙ ap (slice_get d.fields) same ∙ b)
 
 -- ---- an Array that is meant
 
@@ -199,7 +192,7 @@ pub known_of_one : (d : DescriptorValue) (row : List Kept) (bytes marks : List �
     → AreOne row → slice_get row i ≡ Some k → of ≡ Some k.number → IsKnown k.field (usage_list (ranges_at d k.number)) bytes marks free named
     → IsKnownOf d row bytes marks of free named
 known_of_one d row bytes marks of free named i k one here is known = λ place other at its_number.
-    let number : k.number ≡ other.number = some_same (sym is ∙ its_number) in
+    let number : k.number ≡ other.number = same_Some _ _ (sym is ∙ its_number) in
     let field = one i place k other here at number in
     rw (← field, ← number) known
 

@@ -1,6 +1,7 @@
 -- The fields of a report, and the room that they fit.
+use Rattle.std.proofs.lemmas.Grind.{common_steps}
 use Rattle.std.proofs.Common.{◌≡◌, ℕ, suc, ◌+◌, ◌*◌, ◌^◌, ◌<◌, ◌≤◌, Bool, true, false, List, [], ◌∷◌, ◌++◌, length, get_or, arith, refl, sym, ◌∙◌, ap}
-use Rattle.std.specs.Prelude.{ℤ, pos, negsuc, neg_ℤ, ◌≤ℤ◌, unsigned_abs, All, slice_get, unwrap_or}
+use Rattle.std.specs.Prelude.{ℤ, ◌≤ℤ◌, All, slice_get, unwrap_or}
 use Rattle.std.proofs.lemmas.Bool.{and_parts, eqb-true}
 use Rattle.std.proofs.lemmas.Int.{ints}
 use Rattle.std.proofs.lemmas.Option.{slice_get-get_or, unwrap_or-slice_get}
@@ -15,6 +16,7 @@ use Rattle.descriptor_parse.specs.WellFormed.{FitsField, IsWellFormed, IsRange}
 use Rattle.report_write.specs.declared.kept.Kept.{Kept}
 use Rattle.report_write.specs.Fields.{kept, kept_below}
 use Rattle.report_write.specs.representation.Fits.{FitsRoom, FitsKept}
+use Rattle.field_values.proofs.Fractions.{to_abs}
 
 -- ---- fields up to one
 
@@ -40,20 +42,8 @@ one_left d null_states kind id number field l e =
 
 -- ---- a field of a report
 
-to_abs : (z : ℤ) (n : ℕ) → neg_ℤ (pos n) ≤ℤ z → z ≤ℤ pos n → unsigned_abs z ≤ n
-to_abs (pos k) n a b = omega (arith, ints)
-to_abs (negsuc k) n a b = omega (arith, ints)
-
 kinds_equal : (a b : Kind) → same_kind a b ≡ true → a ≡ b
-kinds_equal Kind.Input Kind.Input e = refl
-kinds_equal Kind.Output Kind.Output e = refl
-kinds_equal Kind.Feature Kind.Feature e = refl
-kinds_equal Kind.Input Kind.Output e = cc
-kinds_equal Kind.Input Kind.Feature e = cc
-kinds_equal Kind.Output Kind.Input e = cc
-kinds_equal Kind.Output Kind.Feature e = cc
-kinds_equal Kind.Feature Kind.Input e = cc
-kinds_equal Kind.Feature Kind.Output e = cc
+kinds_equal a b same = grind (arith, common_steps)
 
 ranges_in_order : (d : DescriptorValue) (number : ℕ) → IsWellFormed d → number < length d.fields → All IsRange (ranges_at d number)
 ranges_in_order d number w l = rw (unwrap_or-slice_get d.ranges number []) (w.ranges number [] (omega (arith, w.as_many)))

@@ -2,7 +2,7 @@
 use Rattle.std.proofs.Common.{◌≡◌, ℕ, zero, suc, ◌+◌, ◌<◌, ◌≤◌, Bool, true, false, List, [], ◌∷◌, length, drop, arith, refl, sym, ◌∙◌, ap, Some, None}
 use Rattle.std.specs.Prelude.{Option, ℤ, pos, ◌==◌, nat_lt, not, slice_get, slice_index, if◌then◌else◌}
 use Rattle.std.proofs.lemmas.Bool.{eqb-true, lt-ltb}
-use Rattle.std.proofs.lemmas.Option.{slice_get_within, none-some}
+use Rattle.std.proofs.lemmas.Option.{slice_get_within, none-some, same_Some}
 use Rattle.descriptor_parse.specs.declared.field.Kind.{Kind}
 use Rattle.descriptor_parse.specs.Descriptor.{DescriptorValue}
 use Rattle.host_extract.specs.Found.{value_at, bytes_of, named, reading_at}
@@ -24,11 +24,9 @@ use Rattle.report_write.specs.Fields.{kept_fields}
 use Rattle.report_write.specs.Untouched.{IsOutsideFrom}
 use Rattle.report_write.specs.Held.{AreHeldIn}
 use Rattle.report_write.specs.Written.{IsWritten}
-use Rattle.report_write.proofs.Held.{same_bytes, held_stay}
+use Rattle.field_values.proofs.Reading.{same_bytes}
+use Rattle.report_write.proofs.Held.{held_stay}
 use Rattle.report_write.proofs.Untouched.{all_stay, still_there, all_long, bytes_back}
-
-some_same : {X : Type 0} {a b : X} → Some a ≡ Some b → a ≡ b
-some_same e = cc
 
 pub bytes_are : (d : DescriptorValue) (null_states : List Bool) (kind : Kind) (id : ℕ) (settings : List Setting) (onto : Option (List ℕ)) (report : List ℕ)
     → (w : IsWritten d null_states kind id settings onto report) → bytes_of d report ≡ w.bytes
@@ -65,7 +63,7 @@ pub usage_is_found : (d : DescriptorValue) (null_states : List Bool) (kind : Kin
     → reading_at kept.field usages (bytes_of d report) place ≡ named (usage_read kept.field usages place value) (if kept.field.array then pos 1 else value)
 usage_is_found d null_states kind id settings onto report number setting kept place usages value w at is out asked =
     let there = value_is_read d null_states kind id settings onto report number setting kept place w at is out in
-    let holds : value_at kept.field (bytes_of d report) place ≡ value = some_same (sym there ∙ asked) in
+    let holds : value_at kept.field (bytes_of d report) place ≡ value = same_Some _ _ (sym there ∙ asked) in
     extracted kept.field usages (bytes_of d report) place
     ∙ ap (λ v. named (usage_read kept.field usages place v) (if kept.field.array then pos 1 else v)) holds
 
@@ -82,8 +80,8 @@ as_long d null_states kind id settings given report w =
 only_outside : (d : DescriptorValue) (kept : List Kept) (only : Setting) (one : Kept) (place bit : ℕ) → control_of d kept only.target ≡ Some (Place one place)
     → IsOutside (place_bit one.field place) one.field.size bit → IsOutsideFrom d kept (only ∷ []) 0 bit
 only_outside d kept only one place bit is out zero setting control l here c =
-    let its : only ≡ setting = some_same here in
-    let means : Place one place ≡ control = some_same (sym is ∙ ap (λ s. control_of d kept s.target) its ∙ c) in
+    let its : only ≡ setting = same_Some _ _ here in
+    let means : Place one place ≡ control = same_Some _ _ (sym is ∙ ap (λ s. control_of d kept s.target) its ∙ c) in
     rw (sym means) out
 only_outside d kept only one place bit is out (suc number) setting control l here c = absurd (none-some setting here)
 
@@ -94,7 +92,7 @@ none_after d kept only bit (suc number) setting control l here c = absurd (none-
 
 len_some : (no_bits uses_ids : Bool) (bytes len : ℕ) → (if no_bits then None else Some (bytes + (if uses_ids then 1 else 0))) ≡ Some len → uses_ids ≡ true → 1 ≤ len
 len_some true uses_ids bytes len e u = absurd (none-some len e)
-len_some false true bytes len e u = let same : bytes + 1 ≡ len = some_same e in omega arith
+len_some false true bytes len e u = let same : bytes + 1 ≡ len = same_Some _ _ e in omega arith
 len_some false false bytes len e u = absurd (cc)
 
 same_id : (same : Bool) (short : Bool) → (if not same then Some OtherId else (if short then Some Short else None)) ≡ None → same ≡ true
@@ -132,7 +130,7 @@ written_as_read d null_states kind id target given report kept place a b is w =
     let same : bytes_of d report ≡ bytes_of d given = written_back kept.field (bytes_of d given) (bytes_of d report) place (byte_after d given a) (byte_after d report b)
     (as_long d null_states kind id (only ∷ []) given report w)
     (λ bit out. other_bits d null_states kind id (only ∷ []) given report bit w (only_outside d all only kept place bit is out))
-    (sym (some_same there)) in
+    (sym (same_Some _ _ there)) in
     whole_back d.uses_ids id w.len given report w.bytes w.whole w.begun (len_some _ d.uses_ids _ w.len w.known)
     (sym (bytes_are d null_states kind id (only ∷ []) (Some given) report w) ∙ same)
 

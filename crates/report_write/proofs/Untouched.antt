@@ -3,7 +3,7 @@ use Rattle.std.proofs.Common.{◌≡◌, ℕ, zero, suc, ◌+◌, ◌*◌, ◌<�
 use Rattle.std.specs.Prelude.{Option, pos, if◌then◌else◌, slice_get}
 use Rattle.std.specs.Ordering.{int_eq}
 use Rattle.std.proofs.lemmas.Bool.{cases_order}
-use Rattle.std.proofs.lemmas.Option.{none-some}
+use Rattle.std.proofs.lemmas.Option.{none-some, same_Some}
 use Rattle.std.specs.Option.{option_or}
 use Rattle.descriptor_parse.specs.declared.field.Field.{Field}
 use Rattle.descriptor_parse.specs.Descriptor.{DescriptorValue}
@@ -26,13 +26,10 @@ use Rattle.report_write.specs.Settings.{IsPlaceSet, IsSwitched, IsControlSet, Is
 use Rattle.report_write.specs.Untouched.{IsOutsideControl, IsOutsideFrom}
 use Rattle.report_write.specs.Written.{with_id}
 
-some_same : {X : Type 0} {a b : X} → Some a ≡ Some b → a ≡ b
-some_same e = cc
-
 -- ---- the place where a usage is put
 
 this_one : (b : Bool) (n k : ℕ) → (if b then Some n else None) ≡ Some k → n ≡ k
-this_one true n k e = some_same e
+this_one true n k e = same_Some _ _ e
 this_one false n k e = absurd (none-some k e)
 
 first_below : (test : ℕ → Bool) (n k : ℕ) → first test n ≡ Some k → k < n
@@ -110,7 +107,7 @@ pub still_there : (d : DescriptorValue) (kept : List Kept) (settings : List Sett
 still_there d kept settings start clear n setting one place at is out count bytes marks IsAfter.Begun l = absurd (omega arith)
 still_there d kept settings start clear n setting one place at is out count bytes marks (IsAfter.Next number other old new marks_old marks_new before here taken s) l =
     elim (cases_order n number) [
-      | inl same ↦ (let its : setting ≡ other = some_same (sym at ∙ ap (slice_get settings) same ∙ here) in
+      | inl same ↦ (let its : setting ≡ other = same_Some _ _ (sym at ∙ ap (slice_get settings) same ∙ here) in
           let set = place_set d kept setting old new marks_old marks_new one place is (rw its s) in
           set.asked_for ∙ ap Some (sym set.put.there))
       | inr (inl earlier) ↦ (let kept_there = still_there d kept settings start clear n setting one place at is out number old marks_old before earlier in

@@ -10,7 +10,7 @@ use Rattle.descriptor_parse.specs.declared.field.Field.{Field}
 use Rattle.field_values.specs.Held.{is_held, is_within}
 use Rattle.field_values.specs.Nulls.{is_null, null_of}
 use Rattle.field_values.specs.Lists.{is_no_control, is_unused}
-use Rattle.field_values.proofs.NullLemmas.{held_between, zero_held}
+use Rattle.field_values.proofs.NullLemmas.{held_between, zero_held, null_from}
 use Rattle.report_write.specs.Firsts.{first}
 use Rattle.report_write.specs.Unused.{unused, id_zero}
 use Rattle.report_write.proofs.Firsts.{none_passes, and_both, not_both}
@@ -55,9 +55,6 @@ names_none false within o e = absurd (cc)
 names_past : (held within : Bool) (o : Option ℕ) → held ≡ true → within ≡ true → o ≡ None → (held && is_no_control (if within then o else None)) ≡ true
 names_past held within o h w e = rw (h, w, e) refl
 
-null_by : (within held : Bool) → within ≡ false → held ≡ true → (not within && held) ≡ true
-null_by within held a b = rw (a, b) refl
-
 listed_some : (usages : List ℕ) (number : ℕ) → is_no_control (slice_get usages number) ≡ false → number < length usages
 listed_some usages number e = elim (cases_lt number (length usages)) [
   | inl low ↦ low
@@ -77,7 +74,7 @@ never_unused f usages past p zero_named no_null past_named none v = elim (cases_
   | inl said ↦ (
       let (held, why) = names_none (is_held f.min f.size v) (is_within f v) (slice_get usages (int_gap f.min v)) said in
       elim why [
-        | inl out ↦ not_both (is_null f v) (null_by (is_within f v) (is_held f.min f.size v) out held) (no_null v)
+        | inl out ↦ not_both (is_null f v) (null_from (is_within f v) (is_held f.min f.size v) out held) (no_null v)
         | inr (inside, control) ↦ (
             let number = int_gap f.min v in
             let (from, to) = within_is (int_lt v f.min) (int_lt f.max v) f v refl refl inside in
