@@ -20,7 +20,7 @@ const WRONG: &[(&str, &[(&str, &str)])] = &[
         "wipes_before_it_bumps",
         &[("find(flash, pages)?;\n", "find(flash, pages)?;\n    super::moving::prepare(flash, &layout)?;\n")],
     ),
-    ("bumps_by_one", &[("number + 2)", "number + 1)"), ("number: number + 2", "number: number + 1")]),
+    ("bumps_by_one", &[("number: held.number + 2", "number: held.number + 1")]),
     ("trusts_a_blank_read", &[("    erase_marks(flash, layout.spare)?;\n", TRUSTS)]),
     (
         "leaves_out_open",
@@ -34,10 +34,10 @@ const WRONG: &[(&str, &[(&str, &str)])] = &[
             "    program_mark(
         flash,
         at,
-        claim(index),
-        claim_bytes(layout.place(at), page, number),
-    )?;\n",
-            "",
+        claim(held.index as u16),
+        claim_bytes(layout.place(at), page, held.number),
+    )\n",
+            "    let _ = page;\n    Ok(())\n",
         )],
     ),
     ("tells_a_fault_unsettled", &[("Err(settle(flash, layout, page, slot))", "Err(Failed::Torn)")]),
@@ -49,7 +49,7 @@ const WRONG: &[(&str, &[(&str, &str)])] = &[
         ],
     ),
     ("bumps_forward", &[("pages - 1 - behind)?;", "behind)?;")]),
-    ("bumps_without_about", &[("    program_mark(flash, at, about(index), ZEROS)?;\n", "")]),
+    ("bumps_without_about", &[("    program_mark(flash, at, about(held.index as u16), ZEROS)?;\n", "")]),
     (
         "switches_without_about",
         &[("    program_mark(flash, old.page as usize, about(old.index as u16), ZEROS)?;\n", "")],

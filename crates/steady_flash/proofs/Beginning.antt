@@ -1,9 +1,9 @@
 -- Pages that are made say whether they may have a cell in doubt.
-use Rattle.std.proofs.Common.{◌≡◌, ℕ, ◌+◌, ◌-◌, ◌*◌, ◌<◌, ◌≤◌, replicate, List, Result, Ok, Err, IfOk, get_or, arith, sym, ◌∙◌, ap, refl, inl, inr}
+use Rattle.std.proofs.Common.{◌≡◌, ℕ, ◌+◌, ◌*◌, ◌<◌, ◌≤◌, replicate, List, Result, Ok, Err, IfOk, get_or, arith, ◌∙◌, ap, refl, inl, inr}
 use Rattle.std.proofs.lemmas.Bool.{cases_lt}
 use Rattle.std.proofs.lemmas.Bool.Decides.{eqb_tells}
 use Rattle.std.proofs.lemmas.List.{get_or-set_other}
-use Rattle.steady_flash.specs.Cells.{Written, IsReading, blank, erased}
+use Rattle.steady_flash.specs.Cells.{Written, blank, erased}
 use Rattle.steady_flash.specs.Marked.{Size, Same, OnePlace, OnePageOfPlaces}
 use Rattle.steady_flash.specs.Layout.{held_at, IsLaidOut}
 use Rattle.steady_flash.specs.Moves.{IsErasedPage, moved}

@@ -37,6 +37,12 @@ still_within bytes x y w p = record {
   bits = λ k i. omega (arith, w.bits k i, p.keeps k i, bit_at_and (get_or x k 0) (get_or bytes k 0) i, bit_at-lt (get_or bytes k 0) i, bit_at-lt (get_or x k 0) i);
 }
 
+pub within_itself : (bytes : List ℕ) → Within bytes bytes
+within_itself bytes = record { same_length = refl; bits = λ k i. omega arith }
+
+pub within_then : (x y z : List ℕ) → Within x y → Within y z → Within x z
+within_then x y z a b = record { same_length = a.same_length ∙ b.same_length; bits = λ k i. omega (arith, a.bits k i, b.bits k i) }
+
 pub torn_again : (bytes : List ℕ) (mid new : Written) → IsTorn bytes mid → MayBeProgrammed mid bytes new → IsTorn bytes new
 torn_again bytes mid new t p = record {
   takes = rw p.begun (All-cons (λ (b : List ℕ). b ≡ bytes) bytes mid.begun refl t.takes);
@@ -104,3 +110,19 @@ torn_reading bytes place read e f t r = record {
   clears_only = within_blank read f;
   keeps = λ k i. omega (arith, bit_at_and (get_or blank k 0) (get_or bytes k 0) i, t.least.bits k i, r.set.bits k i, bit_at-lt (get_or bytes k 0) i, bit_at-lt (get_or blank k 0) i);
 }
+
+-- a mark that was whole stays so
+pub marked_torn : (bytes : List ℕ) (mark : Written) → IsMarked bytes mark → IsTorn bytes mark
+marked_torn bytes mark m = record { takes = m.takes; least = rw m.least (within_itself bytes); most = rw m.most (within_itself bytes) }
+
+within_both : (x y : List ℕ) → Within x y → Within y x → x ≡ y
+within_both x y a b = same_number_lists x y a.same_length (λ k l. same_from_bits (get_or x k 0) (get_or y k 0) (λ i. omega (arith, a.bits k i, b.bits k i)))
+
+pub marked_again : (bytes : List ℕ) (mid new : Written) → IsMarked bytes mid → MayBeProgrammed mid bytes new → IsMarked bytes new
+marked_again bytes mid new m p =
+    let torn = torn_again bytes mid new (marked_torn bytes mid m) p in
+    record {
+      takes = torn.takes;
+      least = within_both new.cells.least bytes (rw m.least at p.least.clears_only) torn.least;
+      most = within_both new.cells.most bytes (rw m.most at p.most.clears_only) torn.most;
+    }

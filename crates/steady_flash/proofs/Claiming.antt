@@ -1,6 +1,5 @@
 -- Which claims count after a move.
-use Rattle.std.proofs.Common.{◌≡◌, ℕ, ◌+◌, ◌*◌, ◌<◌, ◌^◌, ◌⊎◌, false, List, Result, Ok, Err, IfOk, is_err, length, slice_set, arith, sym, ◌∙◌, ap, refl, inl, inr}
-use Rattle.std.proofs.lemmas.Bool.{false≢true}
+use Rattle.std.proofs.Common.{◌≡◌, ℕ, ◌+◌, ◌*◌, ◌<◌, ◌^◌, ◌⊎◌, List, Result, Ok, Err, IfOk, length, slice_set, arith, ◌∙◌, ap, refl, inl, inr}
 use Rattle.std.proofs.lemmas.Bool.Decides.{eqb_tells}
 use Rattle.std.proofs.lemmas.List.Elements.{All-contains}
 use Rattle.std.specs.List.{Contains}
@@ -13,7 +12,7 @@ use Rattle.steady_flash.specs.declared.layout.Held.{Held}
 use Rattle.steady_flash.specs.declared.layout.Layout.{Layout}
 use Rattle.steady_flash.proofs.Layouts.{at_set, laid_moved, laid_bumped}
 
-begun_before : (marks marks' : ℕ → ℕ → Written) (pages q j p m : ℕ) → marks' q (1 + 3 * j) ≡ marks q (1 + 3 * j) → IsBegun marks' pages q j p m → IsBegun marks pages q j p m
+pub begun_before : (marks marks' : ℕ → ℕ → Written) (pages q j p m : ℕ) → marks' q (1 + 3 * j) ≡ marks q (1 + 3 * j) → IsBegun marks' pages q j p m → IsBegun marks pages q j p m
 begun_before marks marks' pages q j p m e b = record { bytes = b.bytes; begun = rw e at b.begun; claims = b.claims }
 
 pub none_begun : (mark : Written) (x : List ℕ) → mark ≡ erased → Contains mark.begun x → ⊥
@@ -146,10 +145,6 @@ switched size marks one two three pages spare page number x i bytes a b d c m = 
 pub if_any : {A E : Type 0} (r : Result A E) (X : Type 0) → X → IfOk r (λ _. X)
 if_any (Ok a) X x = x
 if_any (Err e) X x = tt
-
-pub if_not_err : {A E : Type 0} (r : Result A E) (X : Type 0) → is_err r ≡ false → IfOk r (λ _. X) → X
-if_not_err (Ok a) X e x = x
-if_not_err (Err a) X e x = absurd (false≢true (sym e))
 
 -- a mark that no claim is
 pub claimed_open_mark : (size : Size) (marks marks' : ℕ → ℕ → Written) (layout : Layout) (at : ℕ) → OnePlace marks at 0 marks' → IsClaimed size marks layout → IsClaimed size marks' layout

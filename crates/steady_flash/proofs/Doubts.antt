@@ -1,5 +1,5 @@
 -- What is read while a slot is in doubt.
-use Rattle.std.proofs.Common.{◌≡◌, ℕ, ◌<◌, ◌≤◌, Option, Some, None, List, arith, sym, ◌∙◌, ap, ap₂, refl, inl, inr}
+use Rattle.std.proofs.Common.{◌≡◌, ℕ, ◌<◌, Option, Some, None, List, sym, ◌∙◌, ap, ap₂, refl, inl, inr}
 use Rattle.std.proofs.lemmas.Bool.Decides.{eqb_tells}
 use Rattle.std.proofs.lemmas.Option.{none-some}
 use Rattle.flash_model.specs.Image.{slot_at, page_count, IsImage}
@@ -7,8 +7,7 @@ use Rattle.flash_model.specs.Operations.{Programs, MayProgram, Erases, MayErase}
 use Rattle.flash_model.proofs.ByMask.{no_program}
 use Rattle.steady_flash.specs.Cells.{IsEight, Written, blank}
 use Rattle.steady_flash.specs.Marked.{Size}
-use Rattle.steady_flash.specs.Layout.{held_at, IsLaidOut}
-use Rattle.steady_flash.specs.Moves.{Holds}
+use Rattle.steady_flash.specs.Layout.{IsLaidOut}
 use Rattle.steady_flash.specs.Shown.{shown, image_of, image_as, read_as, IsSettled, IsSettledBeside, IsDoubted}
 use Rattle.steady_flash.specs.Faults.{Leaves}
 use Rattle.steady_flash.specs.declared.writing.Failed.{Failed}

@@ -12,3 +12,8 @@ pub mod Witness
 pub mod Telling
 pub mod Beginning
 pub mod Doubts
+pub mod Soundness
+pub mod Adopting
+pub mod Switching
+pub mod Bumping
+pub mod Shrinking

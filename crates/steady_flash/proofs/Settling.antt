@@ -9,10 +9,8 @@ use Rattle.steady_flash.specs.Moves.{Holds, IsCopy, moved}
 use Rattle.steady_flash.specs.Claims.{IsFound, IsOpenTold, IsReadAs, IsSettledPage, IsSameOpen, IsUntouched, IsRaised, HasRoom}
 use Rattle.steady_flash.specs.declared.layout.Held.{Held}
 use Rattle.steady_flash.specs.declared.layout.Layout.{Layout}
+use Rattle.steady_flash.proofs.Cells.{within_itself}
 use Rattle.steady_flash.proofs.Session.{there_after}
-
-within_itself : (bytes : List ℕ) → Within bytes bytes
-within_itself bytes = record { same_length = refl; bits = λ k i. omega arith }
 
 within_same : (x y : List ℕ) → y ≡ x → Within x y
 within_same x y e = rw e (within_itself x)

@@ -1,12 +1,12 @@
 -- A start finds pages that count, or may.
-use Rattle.std.proofs.Common.{◌≡◌, ℕ, ◌+◌, ◌*◌, ◌<◌, ◌≤◌, ◌^◌, ◌⊎◌, List, arith, sym, ◌∙◌, ap, inl, inr}
+use Rattle.std.proofs.Common.{◌≡◌, ℕ, ◌+◌, ◌*◌, ◌<◌, ◌≤◌, ◌^◌, ◌⊎◌, List, arith, ap, inl, inr}
 use Rattle.std.proofs.lemmas.Bool.{cases_lt}
 use Rattle.steady_flash.specs.Cells.{Written}
 use Rattle.steady_flash.specs.Marked.{Size, Same, IsMarkReading}
-use Rattle.steady_flash.specs.Layout.{held_at, IsPlaced, IsLaidOut}
+use Rattle.steady_flash.specs.Layout.{held_at, IsPlaced}
 use Rattle.steady_flash.specs.Claims.{IsClaim, IsFirm, IsClaimed, IsTaken, IsOpenTold, IsSettledPage, IsSameOpen}
 use Rattle.steady_flash.specs.Shown.{IsSettled}
-use Rattle.steady_flash.specs.Told.{MayRead, MayCount, IsFoundTold, IsReadTo, MayBeFound}
+use Rattle.steady_flash.specs.Told.{MayRead, IsFoundTold, IsReadTo, MayBeFound}
 use Rattle.steady_flash.specs.declared.layout.Held.{Held}
 use Rattle.steady_flash.specs.declared.layout.Layout.{Layout}
 use Rattle.steady_flash.proofs.Finding.{begun, firm_here, passed}

@@ -8,7 +8,11 @@ use Rattle.steady_flash.specs.Marked.{Size}
 use Rattle.steady_flash.specs.Layout.{held_at, IsLaidOut}
 use Rattle.steady_flash.specs.Claims.{IsClaim, IsBegun, Counts, IsClaimed}
 use Rattle.steady_flash.specs.declared.layout.Layout.{Layout}
+use Rattle.steady_flash.specs.Moves.{IsTorn}
+use Rattle.steady_flash.specs.Sound.{zeros, IsClaimWhole, IsHeld, IsAllowed, IsQuiet, IsCalm, steady_at}
+use Rattle.steady_flash.proofs.Cells.{torn_erased, marked_torn}
 use Rattle.steady_flash.proofs.Claiming.{same_number, none_begun}
+use Rattle.steady_flash.proofs.Soundness.{held_now, zeros_eight}
 
 -- the claims of two pages, each with number 1
 abbrev first : List ℕ
@@ -133,5 +137,46 @@ claimed = (
   record {
     laid_out = laid_out;
     counts = two (λ p. Counts size marks 2 (held_at layout.held p).page (held_at layout.held p).index p (held_at layout.held p).number) first_counts second_counts;
+  },
+)
+
+-- and on which no greater claim was begun
+torn_marked : (bytes : List ℕ) → IsTorn bytes (with_bytes bytes)
+torn_marked bytes = marked_torn bytes (with_bytes bytes) (record { takes = All-cons (λ (b : List ℕ). b ≡ bytes) bytes [] refl (All-nil (λ (b : List ℕ). b ≡ bytes)); least = refl; most = refl })
+
+whole_mark : (bytes : List ℕ) (at page number : ℕ) → IsClaim 2 at page number bytes → IsClaimWhole (with_bytes bytes) 2 at page number
+whole_mark bytes at page number c = record { bytes = bytes; claims = c; marked = record { takes = All-cons (λ (b : List ℕ). b ≡ bytes) bytes [] refl (All-nil (λ (b : List ℕ). b ≡ bytes)); least = refl; most = refl } }
+
+other_marks : (q m : ℕ) → 1 < m → marks q m ≡ erased
+other_marks q m l = elim (eqb_tells m 1) [
+  | inl same ↦ absurd (omega (arith, same.1))
+  | inr apart ↦ rw apart.0 refl
+]
+
+held_first : IsHeld size marks 2 0 (held_at layout.held 0)
+held_first = held_now size marks 2 0 (held_at layout.held 0) (omega arith) (record { claim = inr (first, first_claims, torn_marked first); done = refl; about = torn_erased zeros zeros_eight; fresh = λ m l e. other_marks 0 m (omega arith) }) (whole_mark first 0 0 1 first_claims)
+
+held_second : IsHeld size marks 2 1 (held_at layout.held 1)
+held_second = held_now size marks 2 1 (held_at layout.held 1) (omega arith) (record { claim = inr (second, second_claims, torn_marked second); done = refl; about = torn_erased zeros zeros_eight; fresh = λ m l e. other_marks 1 m (omega arith) }) (whole_mark second 1 1 1 second_claims)
+
+lower : (p q j m : ℕ) → p < 2 → IsBegun marks 2 q j p m → IsAllowed marks (steady_at layout) p q j m
+lower p q j m b g = elim (begun_which q j p m g) [
+  | inl it ↦ rw it.2 (inr (inl (it.1, it.0, it.3)))
+  | inr it ↦ rw it.2 (inr (inl (it.1, it.0, it.3)))
+]
+
+pub calm : (layout : Layout) × (marks : ℕ → ℕ → Written) × IsCalm (record { pages = 3; triples = 8 }) marks layout
+calm = (
+  layout,
+  marks,
+  record {
+    sound = record {
+      laid_out = laid_out;
+      held = two (λ p. IsHeld size marks 2 p (held_at layout.held p)) held_first held_second;
+      begun = λ p q j m b d e g. lower p q j m b g;
+      room = λ b. absurd (omega (arith, b));
+      spare = λ b. absurd (omega (arith, b));
+    };
+    quiet = two (λ p. IsQuiet size marks 2 p (held_at layout.held p).number) (λ q j m d e g. first_counts.greatest q j m d e g) (λ q j m d e g. second_counts.greatest q j m d e g);
   },
 )

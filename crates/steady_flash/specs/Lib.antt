@@ -7,3 +7,4 @@ pub mod Healthy
 pub mod Claims
 pub mod Told
 pub mod Faults
+pub mod Sound

@@ -2,10 +2,13 @@
 
 ghost use Rattle.std.specs.Prelude.{◌≡◌, ◌+◌, ◌*◌, ◌<◌, ◌≤◌, ◌^◌, ℕ, MatchResult, IfOk, IfErr, IsOk};
 ghost use Rattle.steady_flash.specs.Healthy.{IsRefused};
-ghost use Rattle.steady_flash.specs.Claims.{IsSameOpen, HasRoom, IsRaised, IsMarked, IsErasedMarks, IsClaimed};
+ghost use Rattle.steady_flash.specs.Claims.{IsSameOpen, HasRoom, IsRaised, IsMarked, IsErasedMarks, IsClaim, IsClaimed};
 ghost use Rattle.steady_flash.specs.Marked.{Same, OnePlace, OnePageOfPlaces};
+ghost use Rattle.flash_model.specs.Torn.{Within};
 ghost use Rattle.steady_flash.specs.Cells.{blank, erased};
 ghost use Rattle.steady_flash.specs.Moves.{Holds, IsTorn, IsCopied, IsErasedPage, IsCopy, moved};
+ghost use Rattle.shapes.specs.Shapes.{Bytes};
+ghost use Rattle.steady_flash.specs.Sound.{Standing, IsSound, IsAbout, IsFoundBy, IsSameClaim, IsLeft, IsFirmed, IsBumped, IsCalm, IsStopped, IsNoNewer};
 ghost use Rattle.steady_flash.specs.Layout.{held_at, IsPlaced, IsLaidOut};
 
 use crate::layout::{Held, Layout};
@@ -46,11 +49,17 @@ pub fn program_mark<F: MarkedFlash>(
 ) -> Result<(), Stop>
     requires in_pages { at < (F.size flash.old).pages }
     requires in_page { mark ≤ 3 * (F.size flash.old).triples }
+    ensures fault { IfErr result (λ stop. stop ≡ Stop.Fault) }
     ensures same_size { F.size flash.new ≡ F.size flash.old }
     ensures slots { Same (F.slots flash.old) (F.slots flash.new) }
     ensures healthy { F.is_healthy flash.old → IsOk result × F.is_healthy flash.new }
     ensures marks { OnePlace (F.marks flash.old) at mark (F.marks flash.new) }
-    ensures outcome { F.marks flash.old at mark ≡ erased → (bytes ≡ blank → ⊥) → IfOk result (λ _. IsMarked bytes (F.marks flash.new at mark)) }
+    ensures outcome { IsTorn bytes (F.marks flash.old at mark) → (bytes ≡ blank → ⊥) → MatchResult result
+        (λ _. IsMarked bytes (F.marks flash.new at mark))
+        (λ _. IsTorn bytes (F.marks flash.new at mark)) }
+    // what was whole stays so, and what was clear
+    ensures whole { IsMarked bytes (F.marks flash.old at mark) → (bytes ≡ blank → ⊥) → IsMarked bytes (F.marks flash.new at mark) }
+    ensures clear { IsTorn bytes (F.marks flash.old at mark) → (bytes ≡ blank → ⊥) → Within blank (F.marks flash.new at mark).cells.most → Within blank (F.marks flash.old at mark).cells.most }
 {
     for _tried in 0..TRIES {
         match flash.program_mark(at, mark, bytes) {
@@ -70,6 +79,7 @@ pub fn program_slot<F: MarkedFlash>(
 ) -> Result<(), Stop>
     requires in_pages { at < (F.size flash.old).pages }
     requires in_page { slot < PAGE_SLOTS }
+    ensures fault { IfErr result (λ stop. stop ≡ Stop.Fault) }
     ensures same_size { F.size flash.new ≡ F.size flash.old }
     ensures others { OnePlace (F.slots flash.old) at slot (F.slots flash.new) }
     ensures outcome { F.slots flash.old at slot ≡ erased → (bytes ≡ blank → ⊥) → MatchResult result
@@ -90,11 +100,13 @@ pub fn program_slot<F: MarkedFlash>(
 /// Erases the marks of a page until they are whole.
 pub fn erase_marks<F: MarkedFlash>(flash: &mut F, at: usize) -> Result<(), Stop>
     requires { at < (F.size flash.old).pages }
+    ensures fault { IfErr result (λ stop. stop ≡ Stop.Fault) }
     ensures same_size { F.size flash.new ≡ F.size flash.old }
     ensures slots { Same (F.slots flash.old) (F.slots flash.new) }
     ensures healthy { F.is_healthy flash.old → IsOk result × F.is_healthy flash.new }
     ensures marks { OnePageOfPlaces (F.marks flash.old) at (F.marks flash.new) }
     ensures outcome { IfOk result (λ _. IsErasedMarks (F.marks flash.new) (F.size flash.old).triples at) }
+    ensures no_newer { (m : ℕ) → m ≤ 3 * (F.size flash.old).triples → IsNoNewer (F.marks flash.old at m) (F.marks flash.new at m) }
 {
     for _tried in 0..TRIES {
         match flash.erase_marks(at) {
@@ -108,6 +120,7 @@ pub fn erase_marks<F: MarkedFlash>(flash: &mut F, at: usize) -> Result<(), Stop>
 /// Erases the slots of a page until they are whole.
 pub fn erase_slots<F: MarkedFlash>(flash: &mut F, at: usize) -> Result<(), Stop>
     requires { at < (F.size flash.old).pages }
+    ensures fault { IfErr result (λ stop. stop ≡ Stop.Fault) }
     ensures same_size { F.size flash.new ≡ F.size flash.old }
     ensures others { OnePageOfPlaces (F.slots flash.old) at (F.slots flash.new) }
     ensures outcome { IfOk result (λ _. IsErasedPage (F.slots flash.new) at) }
@@ -126,12 +139,14 @@ pub fn erase_slots<F: MarkedFlash>(flash: &mut F, at: usize) -> Result<(), Stop>
 /// Erases the spare page, whatever it reads as.
 pub fn prepare<F: MarkedFlash>(flash: &mut F, layout: &Layout) -> Result<(), Stop>
     requires { IsPlaced (F.size flash.old) layout.now }
+    ensures fault { IfErr result (λ stop. stop ≡ Stop.Fault) }
     ensures same_size { F.size flash.new ≡ F.size flash.old }
     ensures others { OnePageOfPlaces (F.slots flash.old) layout.now.spare (F.slots flash.new) }
     ensures outcome { IfOk result (λ _. IsErasedPage (F.slots flash.new) layout.now.spare) }
     ensures healthy { F.is_healthy flash.old → IsOk result × F.is_healthy flash.new }
     ensures marks { OnePageOfPlaces (F.marks flash.old) layout.now.spare (F.marks flash.new) }
     ensures erased_marks { IfOk result (λ _. IsErasedMarks (F.marks flash.new) (F.size flash.old).triples layout.now.spare) }
+    ensures calm { IsCalm (F.size flash.old) (F.marks flash.old) layout.now → IsCalm (F.size flash.old) (F.marks flash.new) layout.now }
 {
     erase_marks(flash, layout.spare)?;
     erase_slots(flash, layout.spare)
@@ -146,6 +161,7 @@ fn copy<F: MarkedFlash>(
 ) -> Result<(), Stop>
     requires from_in_pages { from < (F.size flash.old).pages }
     requires to_in_pages { to < (F.size flash.old).pages }
+    ensures fault { IfErr result (λ stop. stop ≡ Stop.Fault) }
     ensures same_size { F.size flash.new ≡ F.size flash.old }
     ensures others { OnePageOfPlaces (F.slots flash.old) to (F.slots flash.new) }
     ensures outcome { (from ≡ to → ⊥) → IsErasedPage (F.slots flash.old) to → IfOk result (λ _. IsCopy (F.slots flash.old) from changed (F.slots flash.new) to) }
@@ -178,6 +194,37 @@ fn copied<F: MarkedFlash>(
     }
 }
 
+/// Claims the spare page for a page of the log, with the next number. Behind a fault a start may find the claim, or not.
+fn claim_spare<F: MarkedFlash>(
+    flash: &mut F,
+    layout: &Layout,
+    page: usize,
+    number: u32,
+) -> Result<(), Stop>
+    requires laid_out { IsLaidOut (F.size flash.old) layout.now }
+    requires in_pages { page < layout.now.pages }
+    requires small { number < 2 ^ 21 }
+    ensures same_size { F.size flash.new ≡ F.size flash.old }
+    ensures slots { Same (F.slots flash.old) (F.slots flash.new) }
+    ensures in_doubt { IfErr result (λ stop. stop ≡ Stop.InDoubt) }
+    ensures healthy { F.is_healthy flash.old → IsOk result × F.is_healthy flash.new }
+    ensures marks { OnePlace (F.marks flash.old) layout.now.spare 1 (F.marks flash.new) }
+    ensures outcome { (bytes : Bytes) × IsClaim layout.now.pages layout.now.spare page number bytes × (IsTorn bytes (F.marks flash.old layout.now.spare 1) → MatchResult result
+        (λ _. IsMarked bytes (F.marks flash.new layout.now.spare 1))
+        (λ _. IsTorn bytes (F.marks flash.new layout.now.spare 1))) }
+{
+    let to = layout.spare;
+    match program_mark(
+        flash,
+        to,
+        claim(0),
+        claim_bytes(layout.place(to), page, number),
+    ) {
+        Ok(()) => Ok(()),
+        Err(_) => Err(Stop::InDoubt),
+    }
+}
+
 /// From the moment at which its claim is whole the spare page counts, and the one that did is spare.
 pub fn switch<F: MarkedFlash>(flash: &mut F, layout: &mut Layout, page: usize) -> Result<(), Stop>
     requires laid_out { IsLaidOut (F.size flash.old) layout.old }
@@ -189,6 +236,9 @@ pub fn switch<F: MarkedFlash>(flash: &mut F, layout: &mut Layout, page: usize) -
     ensures moved { MatchResult result (λ _. layout.new ≡ moved layout.old page) (λ _. layout.new ≡ layout.old) }
     ensures healthy { F.is_healthy flash.old → F.is_healthy flash.new × IfErr result IsRefused × ((held_at layout.old.held page).number + 1 < 2 ^ 21 → IsOk result) }
     ensures opened { IsSameOpen (F.marks flash.old) (F.marks flash.new) }
+    ensures calm { IsCalm (F.size flash.old) (F.marks flash.old) layout.old → IsErasedMarks (F.marks flash.old) (F.size flash.old).triples layout.old.spare → MatchResult result
+        (λ _. IsCalm (F.size flash.old) (F.marks flash.new) layout.new)
+        (λ stop. IsStopped (F.size flash.old) (F.marks flash.new) layout.old page stop) }
     ensures claimed { IsClaimed (F.size flash.old) (F.marks flash.old) layout.old → IsErasedMarks (F.marks flash.old) (F.size flash.old).triples layout.old.spare → IfOk result (λ _. IsClaimed (F.size flash.old) (F.marks flash.new) layout.new) }
 {
     let old = layout.held[page];
@@ -197,16 +247,7 @@ pub fn switch<F: MarkedFlash>(flash: &mut F, layout: &mut Layout, page: usize) -
         return Err(Stop::Named(MountError::Worn));
     }
     program_mark(flash, old.page as usize, about(old.index as u16), ZEROS)?;
-    if program_mark(
-        flash,
-        to,
-        claim(0),
-        claim_bytes(layout.place(to), page, old.number + 1),
-    )
-    .is_err()
-    {
-        return Err(Stop::InDoubt);
-    }
+    claim_spare(flash, layout, page, old.number + 1)?;
     layout.held[page] = Held {
         page: to as u8,
         index: 0,
@@ -233,9 +274,14 @@ pub fn move_page<F: MarkedFlash>(
     ensures same_pages { layout.new.pages ≡ layout.old.pages }
     ensures others { OnePageOfPlaces (F.slots flash.old) layout.old.spare (F.slots flash.new) }
     ensures moved { MatchResult result (λ _. layout.new ≡ moved layout.old page) (λ _. layout.new ≡ layout.old) }
-    ensures copied { IfOk result (λ _. IsCopy (F.slots flash.old) (held_at layout.old.held page).page changed (F.slots flash.new) layout.old.spare) }
+    ensures copied { MatchResult result
+        (λ _. IsCopy (F.slots flash.old) (held_at layout.old.held page).page changed (F.slots flash.new) layout.old.spare)
+        (λ stop. stop ≡ Stop.InDoubt → IsCopy (F.slots flash.old) (held_at layout.old.held page).page changed (F.slots flash.new) layout.old.spare) }
     ensures healthy { F.is_healthy flash.old → F.is_healthy flash.new × IfErr result IsRefused × ((held_at layout.old.held page).number + 1 < 2 ^ 21 → IsOk result) }
     ensures opened { (q : ℕ) → (q ≡ layout.old.spare → ⊥) → F.marks flash.new q 0 ≡ F.marks flash.old q 0 }
+    ensures calm { IsCalm (F.size flash.old) (F.marks flash.old) layout.old → MatchResult result
+        (λ _. IsCalm (F.size flash.old) (F.marks flash.new) layout.new)
+        (λ stop. IsStopped (F.size flash.old) (F.marks flash.new) layout.old page stop) }
     ensures claimed { IsClaimed (F.size flash.old) (F.marks flash.old) layout.old → IfOk result (λ _. IsClaimed (F.size flash.old) (F.marks flash.new) layout.new) }
 {
     prepare(flash, layout)?;
@@ -264,6 +310,9 @@ pub fn erase_page<F: MarkedFlash>(
     ensures erased { IfOk result (λ _. IsErasedPage (F.slots flash.new) layout.old.spare) }
     ensures healthy { F.is_healthy flash.old → F.is_healthy flash.new × IfErr result IsRefused × ((held_at layout.old.held page).number + 1 < 2 ^ 21 → IsOk result) }
     ensures opened { (q : ℕ) → (q ≡ layout.old.spare → ⊥) → F.marks flash.new q 0 ≡ F.marks flash.old q 0 }
+    ensures calm { IsCalm (F.size flash.old) (F.marks flash.old) layout.old → MatchResult result
+        (λ _. IsCalm (F.size flash.old) (F.marks flash.new) layout.new)
+        (λ stop. IsStopped (F.size flash.old) (F.marks flash.new) layout.old page stop) }
     ensures claimed { IsClaimed (F.size flash.old) (F.marks flash.old) layout.old → IfOk result (λ _. IsClaimed (F.size flash.old) (F.marks flash.new) layout.new) }
 {
     prepare(flash, layout)?;
@@ -283,36 +332,81 @@ pub fn bump<F: MarkedFlash>(flash: &mut F, layout: &mut Layout, page: usize) -> 
     ensures same_places { (p : ℕ) → (held_at layout.new.held p).page ≡ (held_at layout.old.held p).page }
     ensures complete { F.is_healthy flash.old → HasRoom (F.size flash.old).triples (held_at layout.old.held page) → IsOk result }
     ensures numbers { (p : ℕ) → IsRaised (held_at layout.old.held p) (held_at layout.new.held p) (p ≡ page) }
+    ensures sound { (before : Standing) → IsSound (F.size flash.old) (F.marks flash.old) before → before.layout.pages ≡ layout.old.pages → IsFoundBy (F.marks flash.old) before page (held_at layout.old.held page) → MatchResult result
+        (λ _. IsBumped (F.size flash.old) (F.marks flash.old) before page (F.marks flash.new) (held_at layout.new.held page))
+        (λ _. IsLeft (F.size flash.old) (F.marks flash.old) before page (F.marks flash.new)) }
+{
+    let held = layout.held[page];
+    if held.index as usize + 1 >= flash.triples() {
+        return Err(Stop::Named(MountError::OutOfMarks));
+    }
+    if held.number + 2 > LAST_NUMBER {
+        return Err(Stop::Named(MountError::Worn));
+    }
+    make_firm(flash, layout, page)?;
+    outbid(flash, layout, page)
+}
+
+/// The claim that a page was found by is firm from here on, whatever it was, and the mark before a greater one is whole.
+fn make_firm<F: MarkedFlash>(flash: &mut F, layout: &Layout, page: usize) -> Result<(), Stop>
+    requires laid_out { IsLaidOut (F.size flash.old) layout.now }
+    requires in_pages { page < layout.now.pages }
+    ensures same_size { F.size flash.new ≡ F.size flash.old }
+    ensures slots { Same (F.slots flash.old) (F.slots flash.new) }
+    ensures healthy { F.is_healthy flash.old → IsOk result × F.is_healthy flash.new }
+    ensures opened { IsSameOpen (F.marks flash.old) (F.marks flash.new) }
+    ensures sound { (before : Standing) → IsSound (F.size flash.old) (F.marks flash.old) before → before.layout.pages ≡ layout.now.pages → IsFoundBy (F.marks flash.old) before page (held_at layout.now.held page) → MatchResult result
+        (λ _. IsFirmed (F.size flash.old) (F.marks flash.old) before page (F.marks flash.new) (held_at layout.now.held page))
+        (λ _. IsLeft (F.size flash.old) (F.marks flash.old) before page (F.marks flash.new)) }
 {
     let held = layout.held[page];
     let at = held.page as usize;
-    let index = held.index as u16;
-    let number = held.number;
-    if (index + 1) as usize >= flash.triples() {
-        return Err(Stop::Named(MountError::OutOfMarks));
-    }
-    if number + 2 > LAST_NUMBER {
-        return Err(Stop::Named(MountError::Worn));
-    }
-    program_mark(flash, at, about(index), ZEROS)?;
-    // Firm from here on, whatever it was.
+    program_mark(flash, at, about(held.index as u16), ZEROS)?;
     program_mark(
         flash,
         at,
-        claim(index),
-        claim_bytes(layout.place(at), page, number),
-    )?;
-    program_mark(
-        flash,
-        at,
-        claim(index + 1),
-        claim_bytes(layout.place(at), page, number + 2),
-    )?;
-    layout.held[page] = Held {
-        page: at as u8,
-        index: (index + 1) as u8,
-        number: number + 2,
+        claim(held.index as u16),
+        claim_bytes(layout.place(at), page, held.number),
+    )
+}
+
+/// The page claims the number after the next one.
+fn outbid<F: MarkedFlash>(flash: &mut F, layout: &mut Layout, page: usize) -> Result<(), Stop>
+    requires laid_out { IsLaidOut (F.size flash.old) layout.old }
+    requires in_pages { page < layout.old.pages }
+    requires room { (held_at layout.old.held page).index + 1 < (F.size flash.old).triples }
+    requires small { (held_at layout.old.held page).number + 2 < 2 ^ 21 }
+    ensures same_size { F.size flash.new ≡ F.size flash.old }
+    ensures laid_out { IsLaidOut (F.size flash.old) layout.new }
+    ensures same_pages { layout.new.pages ≡ layout.old.pages }
+    ensures slots { Same (F.slots flash.old) (F.slots flash.new) }
+    ensures healthy { F.is_healthy flash.old → IsOk result × F.is_healthy flash.new }
+    ensures opened { IsSameOpen (F.marks flash.old) (F.marks flash.new) }
+    ensures same_places { (p : ℕ) → (held_at layout.new.held p).page ≡ (held_at layout.old.held p).page }
+    ensures numbers { (p : ℕ) → IsRaised (held_at layout.old.held p) (held_at layout.new.held p) (p ≡ page) }
+    ensures sound { (before : Standing) → IsSound (F.size flash.old) (F.marks flash.old) before → before.layout.pages ≡ layout.old.pages → IsSameClaim (held_at layout.old.held page) (held_at before.layout.held page) → IsAbout (F.marks flash.old) (held_at before.layout.held page) → MatchResult result
+        (λ _. IsBumped (F.size flash.old) (F.marks flash.old) before page (F.marks flash.new) (held_at layout.new.held page))
+        (λ _. IsLeft (F.size flash.old) (F.marks flash.old) before page (F.marks flash.new)) }
+{
+    let held = layout.held[page];
+    let at = held.page as usize;
+    let next = Held {
+        page: held.page,
+        index: held.index + 1,
+        number: held.number + 2,
         is_opened: false,
     };
-    program_mark(flash, at, done(index + 1), done_bytes(layout.place(at)))
+    program_mark(
+        flash,
+        at,
+        claim(next.index as u16),
+        claim_bytes(layout.place(at), page, next.number),
+    )?;
+    layout.held[page] = next;
+    program_mark(
+        flash,
+        at,
+        done(next.index as u16),
+        done_bytes(layout.place(at)),
+    )
 }

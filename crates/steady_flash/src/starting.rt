@@ -1,12 +1,13 @@
 //! A start: it finds the pages, and settles what a power loss left in doubt.
 
-ghost use Rattle.std.specs.Prelude.{◌≡◌, ◌≢◌, ◌+◌, ◌-◌, ◌&&◌, nat_lt, length, if◌then◌else◌, ◌*◌, ◌<◌, ◌≤◌, ◌^◌, ℕ, IsTrue, ◌↔◌, IfOk, IfErr, IsOk};
+ghost use Rattle.std.specs.Prelude.{◌≡◌, ◌≢◌, ◌+◌, ◌-◌, ◌&&◌, nat_lt, length, if◌then◌else◌, ◌*◌, ◌<◌, ◌≤◌, ◌^◌, ℕ, IsTrue, ◌↔◌, IfOk, IfErr, IsOk, MatchResult};
 ghost use Rattle.steady_flash.specs.Healthy.{IsRefusal, IsRefused};
 ghost use Rattle.steady_flash.specs.Claims.{IsClaim, IsClaimed, IsFound, IsFoundTo, IsTaken, IsKeptOr, IsOpenTold, IsSettledPage, IsSameOpen, IsUntouched, IsOurs, IsUnheld, HasRoom, IsRaised};
 ghost use Rattle.steady_flash.specs.Marked.{Size, Same};
 ghost use Rattle.steady_flash.specs.Layout.{held_at, IsServed, IsPlaced, IsLaidOut};
 ghost use Rattle.steady_flash.specs.Shown.{IsSettled};
 ghost use Rattle.steady_flash.specs.Told.{IsFoundTold, IsReadTo, MayBeFound};
+ghost use Rattle.steady_flash.specs.Sound.{Standing, IsSound, IsFoundBy, IsBumped, IsLeft, IsCalm, IsStill, HasRead, Narrows, Shrinks, IsShrunk, IsStarted, steady_at};
 
 use crate::layout::{Held, Layout, MOST_PAGES, NOWHERE};
 use crate::making::why_not_found;
@@ -30,6 +31,10 @@ pub fn start<F: MarkedFlash>(flash: &mut F) -> Result<Layout, MountError>
     ensures settled { (before : Layout) → IsClaimed (F.size flash.old) (F.marks flash.old) before → IfOk result (λ layout. (layout.pages ≡ before.pages) × ((p : ℕ) → p < before.pages → IsOpenTold (F.marks flash.old) (F.slots flash.old) (held_at before.held p).page → IsSettledPage (F.slots flash.old) (held_at before.held p).page (F.slots flash.new) layout p)) }
     ensures told { IsFoundTold (F.size flash.old) (F.marks flash.old) (F.slots flash.old) ((F.size flash.old).pages - 1) → IfOk result (λ layout. IsSettled (F.slots flash.new) layout) }
     ensures complete { F.is_healthy flash.old → (before : Layout) → IsClaimed (F.size flash.old) (F.marks flash.old) before → IsOurs (F.size flash.old) (F.marks flash.old) before.pages → ((p : ℕ) → p < before.pages → HasRoom (F.size flash.old).triples (held_at before.held p)) → IsOk result }
+    // also where it is cut: then the cells show no more than before
+    ensures sound { (before : Standing) → IsSound (F.size flash.old) (F.marks flash.old) before → MatchResult result
+        (λ layout. IsStarted (F.size flash.old) before (F.marks flash.old) (F.slots flash.old) layout (F.marks flash.new) (F.slots flash.new))
+        (λ _. IsShrunk (F.size flash.old) before (F.marks flash.old) (F.slots flash.old) (F.marks flash.new) (F.slots flash.new)) }
 {
     let count = flash.pages();
     if count < 3 || count > MOST_PAGES + 1 {
@@ -55,6 +60,9 @@ fn settle_all<F: MarkedFlash>(flash: &mut F, pages: usize) -> Result<Layout, Sto
     ensures settled { (before : Layout) → IsClaimed (F.size flash.old) (F.marks flash.old) before → before.pages ≡ pages → IfOk result (λ layout. (layout.pages ≡ pages) × ((p : ℕ) → p < before.pages → IsOpenTold (F.marks flash.old) (F.slots flash.old) (held_at before.held p).page → IsSettledPage (F.slots flash.old) (held_at before.held p).page (F.slots flash.new) layout p)) }
     ensures told { IsFoundTold (F.size flash.old) (F.marks flash.old) (F.slots flash.old) pages → IfOk result (λ layout. IsSettled (F.slots flash.new) layout) }
     ensures complete { F.is_healthy flash.old → (before : Layout) → IsClaimed (F.size flash.old) (F.marks flash.old) before → before.pages ≡ pages → IsOurs (F.size flash.old) (F.marks flash.old) pages → ((p : ℕ) → p < before.pages → HasRoom (F.size flash.old).triples (held_at before.held p)) → IsOk result }
+    ensures sound { (before : Standing) → IsSound (F.size flash.old) (F.marks flash.old) before → before.layout.pages ≡ pages → MatchResult result
+        (λ layout. IsStarted (F.size flash.old) before (F.marks flash.old) (F.slots flash.old) layout (F.marks flash.new) (F.slots flash.new))
+        (λ _. IsShrunk (F.size flash.old) before (F.marks flash.old) (F.slots flash.old) (F.marks flash.new) (F.slots flash.new)) }
 {
     let mut layout = find(flash, pages)?;
     bump_all(flash, &mut layout)?;
@@ -72,6 +80,9 @@ fn bump_all<F: MarkedFlash>(flash: &mut F, layout: &mut Layout) -> Result<(), St
     ensures opened { IsSameOpen (F.marks flash.old) (F.marks flash.new) }
     ensures same_places { (p : ℕ) → (held_at layout.new.held p).page ≡ (held_at layout.old.held p).page }
     ensures complete { F.is_healthy flash.old → ((p : ℕ) → p < layout.old.pages → HasRoom (F.size flash.old).triples (held_at layout.old.held p)) → IsOk result × ((p : ℕ) → p < layout.old.pages → (held_at layout.new.held p).number + 1 < 2 ^ 21) }
+    ensures sound { (before : Standing) → IsSound (F.size flash.old) (F.marks flash.old) before → before.layout.pages ≡ layout.old.pages → ((p : ℕ) → p < layout.old.pages → IsFoundBy (F.marks flash.old) before p (held_at layout.old.held p)) → MatchResult result
+        (λ _. IsCalm (F.size flash.old) (F.marks flash.new) layout.new × Narrows before (steady_at layout.new))
+        (λ _. IsStill (F.size flash.old) before (F.marks flash.new)) }
 {
     let pages = layout.pages;
     for behind in 0..pages {
@@ -88,6 +99,9 @@ fn settle_opened<F: MarkedFlash>(flash: &mut F, layout: &mut Layout) -> Result<(
     ensures healthy { F.is_healthy flash.old → F.is_healthy flash.new × IfErr result IsRefused }
     ensures settled { IfOk result (λ _. (p : ℕ) → p < layout.old.pages → IsOpenTold (F.marks flash.old) (F.slots flash.old) (held_at layout.old.held p).page → IsSettledPage (F.slots flash.old) (held_at layout.old.held p).page (F.slots flash.new) layout.new p) }
     ensures complete { F.is_healthy flash.old → ((p : ℕ) → p < layout.old.pages → (held_at layout.old.held p).number + 1 < 2 ^ 21) → IsOk result }
+    ensures sound { IsCalm (F.size flash.old) (F.marks flash.old) layout.old → MatchResult result
+        (λ _. IsCalm (F.size flash.old) (F.marks flash.new) layout.new × Shrinks (F.size flash.old) (steady_at layout.old) (F.marks flash.old) (F.slots flash.old) (steady_at layout.new) (F.marks flash.new) (F.slots flash.new))
+        (λ _. IsShrunk (F.size flash.old) (steady_at layout.old) (F.marks flash.old) (F.slots flash.old) (F.marks flash.new) (F.slots flash.new)) }
 {
     let pages = layout.pages;
     for page in 0..pages {
@@ -112,6 +126,9 @@ fn bump_where_begun<F: MarkedFlash>(
     ensures same_places { (p : ℕ) → (held_at layout.new.held p).page ≡ (held_at layout.old.held p).page }
     ensures complete { F.is_healthy flash.old → HasRoom (F.size flash.old).triples (held_at layout.old.held page) → IsOk result }
     ensures numbers { (p : ℕ) → IsRaised (held_at layout.old.held p) (held_at layout.new.held p) (p ≡ page) }
+    ensures sound { (before : Standing) → IsSound (F.size flash.old) (F.marks flash.old) before → before.layout.pages ≡ layout.old.pages → IsFoundBy (F.marks flash.old) before page (held_at layout.old.held page) → MatchResult result
+        (λ _. IsBumped (F.size flash.old) (F.marks flash.old) before page (F.marks flash.new) (held_at layout.new.held page))
+        (λ _. IsLeft (F.size flash.old) (F.marks flash.old) before page (F.marks flash.new)) }
 {
     let held = layout.held[page];
     let at = held.page as usize;
@@ -141,6 +158,9 @@ fn settle_where_opened<F: MarkedFlash>(
     ensures others { IfOk result (λ _. (p : ℕ) → p < layout.old.pages → (p ≡ page → ⊥) → IsUntouched (F.marks flash.old) (F.slots flash.old) layout.old (F.marks flash.new) (F.slots flash.new) layout.new p) }
     ensures complete { F.is_healthy flash.old → (held_at layout.old.held page).number + 1 < 2 ^ 21 → IsOk result }
     ensures numbers { (p : ℕ) → (p ≡ page → ⊥) → (held_at layout.new.held p).number ≡ (held_at layout.old.held p).number }
+    ensures sound { IsCalm (F.size flash.old) (F.marks flash.old) layout.old → MatchResult result
+        (λ _. IsCalm (F.size flash.old) (F.marks flash.new) layout.new × Shrinks (F.size flash.old) (steady_at layout.old) (F.marks flash.old) (F.slots flash.old) (steady_at layout.new) (F.marks flash.new) (F.slots flash.new))
+        (λ _. IsShrunk (F.size flash.old) (steady_at layout.old) (F.marks flash.old) (F.slots flash.old) (F.marks flash.new) (F.slots flash.new)) }
 {
     let held = layout.held[page];
     let opened = flash.read_mark(held.page as usize, OPEN);
@@ -158,6 +178,8 @@ fn find<F: MarkedFlash>(flash: &F, pages: usize) -> Result<Layout, Stop>
     ensures healthy { F.is_healthy flash.now → IfErr result IsRefused }
     ensures found { (before : Layout) → IsClaimed (F.size flash.now) (F.marks flash.now) before → before.pages ≡ pages → IfOk result (λ layout. IsFound before layout) }
     ensures read { IfOk result (λ layout. (layout.pages ≡ pages) × MayBeFound (F.size flash.now) (F.marks flash.now) layout) }
+    ensures pages { IfOk result (λ layout. layout.pages ≡ pages) }
+    ensures sound { (before : Standing) → IsSound (F.size flash.now) (F.marks flash.now) before → before.layout.pages ≡ pages → IfOk result (λ layout. (p : ℕ) → p < pages → IsFoundBy (F.marks flash.now) before p (held_at layout.held p)) }
     ensures complete { F.is_healthy flash.now → (before : Layout) → IsClaimed (F.size flash.now) (F.marks flash.now) before → before.pages ≡ pages → IsOurs (F.size flash.now) (F.marks flash.now) pages → IsOk result }
 {
     let mut layout = Layout {
@@ -184,6 +206,7 @@ fn find_claims<F: MarkedFlash>(flash: &F, layout: &mut Layout) -> Result<(), Sto
     ensures healthy { F.is_healthy flash.now → IfErr result IsRefused }
     ensures found { (before : Layout) → IsClaimed (F.size flash.now) (F.marks flash.now) before → IsFoundTo before layout.old 0 0 → IfOk result (λ _. IsFoundTo before layout.new (layout.old.pages + 1) 0) }
     ensures read { IsReadTo (F.size flash.now).triples (F.marks flash.now) layout.old 0 0 → IfOk result (λ _. IsReadTo (F.size flash.now).triples (F.marks flash.now) layout.new (layout.old.pages + 1) 0) }
+    ensures reads { HasRead (F.size flash.now) (F.marks flash.now) layout.old 0 0 → IfOk result (λ _. HasRead (F.size flash.now) (F.marks flash.now) layout.new (layout.old.pages + 1) 0) }
     ensures ours { IsOurs (F.size flash.now) (F.marks flash.now) layout.old.pages → IsOk result }
 {
     for at in 0..flash.pages() {
@@ -200,6 +223,7 @@ fn find_on<F: MarkedFlash>(flash: &F, layout: &mut Layout, at: usize) -> Result<
     ensures healthy { F.is_healthy flash.now → IfErr result IsRefused }
     ensures found { (before : Layout) → IsClaimed (F.size flash.now) (F.marks flash.now) before → IsFoundTo before layout.old at 0 → IfOk result (λ _. IsFoundTo before layout.new at (F.size flash.now).triples) }
     ensures read { IsReadTo (F.size flash.now).triples (F.marks flash.now) layout.old at 0 → IfOk result (λ _. IsReadTo (F.size flash.now).triples (F.marks flash.now) layout.new at (F.size flash.now).triples) }
+    ensures reads { HasRead (F.size flash.now) (F.marks flash.now) layout.old at 0 → IfOk result (λ _. HasRead (F.size flash.now) (F.marks flash.now) layout.new at (F.size flash.now).triples) }
     ensures ours { IsOurs (F.size flash.now) (F.marks flash.now) layout.old.pages → IsOk result }
 {
     for index in 0..flash.triples() {

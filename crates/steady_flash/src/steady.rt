@@ -5,6 +5,7 @@ ghost use Rattle.steady_flash.specs.Healthy.{IsRefusal};
 ghost use Rattle.flash_model.specs.Operations.{Programs, MayProgram, Erases, MayErase};
 ghost use Rattle.steady_flash.specs.Layout.{held_at, IsLaidOut, LastsFor};
 ghost use Rattle.steady_flash.specs.Shown.{image_of, image_as, read_as, IsSettled, IsSettledBeside, IsReadImage};
+ghost use Rattle.steady_flash.specs.Sound.{Standing, IsSound, IsStarted, IsShrunk};
 ghost use Rattle.steady_flash.specs.Claims.{IsClaimed, IsNoGreater, IsOpenTold, IsOurs, HasRoom};
 ghost use Rattle.steady_flash.specs.Told.{IsFoundTold};
 
@@ -30,7 +31,9 @@ pub const NO_SLOT: [u8; SLOT_BYTES] = [255, 255, 255, 127, 255, 255, 255, 255];
 /// it reads on, and each operation fails. A start shows what the cells may have read as, if for each page the greatest claim that was
 /// begun is firm. On a healthy flash a start, a program and an erase succeed, until marks or numbers end.
 ///
-/// What power losses leave of marks, and a cut start, is **tested, not proved**, under these premises:
+/// A power loss is a flash whose operations all fail from then on, the first of them torn. Of a start that is cut it is proved that
+/// the cells show no more than before it, and that one completed behind it shows what was there. What a session leaves of the marks
+/// when it is cut is **tested, not proved**, under these premises:
 ///
 /// - The flash does what [`MarkedFlash`] asks, and nothing else writes there, a plain log neither.
 /// - The power is not lost inside as many starts in a row as half the triples of a page: at least 4, mostly 12. A start that ends
@@ -104,6 +107,10 @@ impl<F: MarkedFlash + Drop> SteadyFlash<F> {
         ensures settled { (before : Layout) → IsClaimed (F.size flash) (F.marks flash) before → ((p : ℕ) → p < before.pages → IsOpenTold (F.marks flash) (F.slots flash) (held_at before.held p).page)
             → IfOk result (λ steady. IsSettled (F.slots steady.flash) steady.layout × IsReadImage (F.slots flash) before (image_of (F.slots steady.flash) steady.layout)) }
         ensures healthy { F.is_healthy flash → MatchResult result (λ steady. F.is_healthy steady.flash × (steady.is_lost ≡ false)) (λ unmounted. F.is_healthy unmounted.flash × IsRefusal unmounted.why) }
+        // healthy or not, and whatever power losses left of marks: a start that ended early shows no more than the cells did
+        ensures sound { (before : Standing) → IsSound (F.size flash) (F.marks flash) before → MatchResult result
+            (λ steady. IsStarted (F.size flash) before (F.marks flash) (F.slots flash) steady.layout (F.marks steady.flash) (F.slots steady.flash))
+            (λ unmounted. IsShrunk (F.size flash) before (F.marks flash) (F.slots flash) (F.marks unmounted.flash) (F.slots unmounted.flash)) }
     {
         let mut flash = flash;
         let started = start(&mut flash);

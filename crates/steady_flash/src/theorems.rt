@@ -10,6 +10,7 @@ ghost use Rattle.steady_flash.specs.Cells.{IsEight, Written, IsReading, MayBePro
 ghost use Rattle.steady_flash.specs.Marked.{Size, OnePlace};
 ghost use Rattle.steady_flash.specs.Layout.{held_at, IsLaidOut};
 ghost use Rattle.steady_flash.specs.Shown.{shown, image_of, IsSettled, IsReadImage};
+ghost use Rattle.steady_flash.specs.Sound.{Standing, IsCalm, IsTold, MayShow, Shrinks, IsStarted, steady_at};
 ghost use Rattle.steady_flash.specs.Claims.{IsOpenTold, IsClaimed};
 ghost use Rattle.steady_flash.specs.Told.{IsFoundTold};
 ghost use Rattle.steady_flash.specs.declared.layout.Layout.{Layout};
@@ -42,4 +43,27 @@ pub fn a_claimed_flash_may_be_mounted()
 /// There is a flash on which claims count, so that what is said of starts speaks of some.
 pub fn some_flash_is_claimed()
     ensures { (layout : Layout) × (marks : ℕ → ℕ → Written) × IsClaimed (record { pages = 3; triples = 8 }) marks layout }
+{}
+
+/// A start that was cut behind another one leaves what one start that was cut may leave.
+pub fn cut_starts_are_as_one()
+    ensures { (size : Size) (first second third : Standing) (marks slots marks' slots' marks'' slots'' : ℕ → ℕ → Written)
+        → Shrinks size first marks slots second marks' slots' → Shrinks size second marks' slots' third marks'' slots'' → Shrinks size first marks slots third marks'' slots'' }
+{}
+
+/// A start that is completed behind any that were cut has no cell in doubt, and shows what the cells may have shown before these.
+pub fn a_start_behind_cut_ones_shows_what_was_there()
+    ensures { (size : Size) (before between : Standing) (marks slots marks' slots' marks'' slots'' : ℕ → ℕ → Written) (layout : Layout)
+        → Shrinks size before marks slots between marks' slots' → IsStarted size between marks' slots' layout marks'' slots'' → IsTold marks slots before
+        → IsSettled slots'' layout × MayShow slots before (shown slots'' layout) }
+{}
+
+/// Between the operations of a session each page has one image to show.
+pub fn a_calm_flash_shows_one_image()
+    ensures { (slots : ℕ → ℕ → Written) (layout : Layout) (read : ℕ → ℕ → Bytes) (p s : ℕ) → IsSettled slots layout → MayShow slots (steady_at layout) read → p < layout.pages → s < PAGE_SLOTS → read p s ≡ shown slots layout p s }
+{}
+
+/// There is a flash of which this is true.
+pub fn some_flash_is_calm()
+    ensures { (layout : Layout) × (marks : ℕ → ℕ → Written) × IsCalm (record { pages = 3; triples = 8 }) marks layout }
 {}

@@ -1,6 +1,7 @@
 use Rattle.std.proofs.Common.{rules, sym, true, ◌≡◌}
 use Rattle.steady_flash.proofs.Finding.{found_none, found_all, found_elsewhere, no_number, number_found, apart_found, unheld_found}
 use Rattle.steady_flash.proofs.Telling.{read_none, read_all}
+use Rattle.steady_flash.proofs.Bumping.{reads_none, found_read}
 use Rattle.std.proofs.lemmas.Bool.{false≢true}
 use Rattle.steady_flash.proofs.starting.find.Goals as goal
 
@@ -23,3 +24,8 @@ returns-clause-read g c =
     let f = c.in_ok-find_claims.ensures.read (read_none _ _ _ no_number) in
     let whole : c.is_whole.result ≡ true = search rules in
     (c.find_claims.ensures.same_pages, read_all _ _ c.find_claims.new.layout c.spare_of.result c.args.pages c.requires.count f (c.is_whole.ensures.numbered whole))
+
+pub returns-clause-sound : goal.returns-clause-sound
+returns-clause-sound g c = λ before s e.
+    let placed = c.find_claims.ensures.placed in
+    found_read _ (g.F.MarkedFlash.marks c.args.flash.now) before c.find_claims.new.layout c.args.pages s e placed c.find_claims.ensures.same_pages (c.in_ok-find_claims.ensures.reads (reads_none _ (g.F.MarkedFlash.marks c.args.flash.now) _ no_number))

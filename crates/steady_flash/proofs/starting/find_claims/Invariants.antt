@@ -2,6 +2,7 @@ use Rattle.std.proofs.Common.{◌≡◌}
 use Rattle.steady_flash.specs.Layout.{IsPlaced}
 use Rattle.steady_flash.specs.Claims.{IsClaimed, IsFoundTo}
 use Rattle.steady_flash.specs.Told.{IsReadTo}
+use Rattle.steady_flash.specs.Sound.{HasRead}
 use Rattle.steady_flash.specs.declared.layout.Layout.{Layout}
 use Rattle.steady_flash.proofs.starting.find_claims.Given as goal
 
@@ -11,4 +12,5 @@ invariant-loop-at g l = record {
   same_pages : l.layout.pages ≡ l.fn.layout.pages;
   found : (before : Layout) → IsClaimed (g.F.MarkedFlash.size l.flash) (g.F.MarkedFlash.marks l.flash) before → IsFoundTo before l.fn.layout 0 0 → IsFoundTo before l.layout l.at 0;
   read : IsReadTo (g.F.MarkedFlash.size l.flash).triples (g.F.MarkedFlash.marks l.flash) l.fn.layout 0 0 → IsReadTo (g.F.MarkedFlash.size l.flash).triples (g.F.MarkedFlash.marks l.flash) l.layout l.at 0;
+  reads : HasRead (g.F.MarkedFlash.size l.flash) (g.F.MarkedFlash.marks l.flash) l.fn.layout 0 0 → HasRead (g.F.MarkedFlash.size l.flash) (g.F.MarkedFlash.marks l.flash) l.layout l.at 0;
 }

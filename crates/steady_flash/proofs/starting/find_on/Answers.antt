@@ -4,6 +4,7 @@ use Rattle.std.proofs.lemmas.Bool.{false≢true}
 use Rattle.steady_flash.specs.Marked.{IsMarkReading}
 use Rattle.steady_flash.proofs.Finding.{found_step}
 use Rattle.steady_flash.proofs.Telling.{read_step}
+use Rattle.steady_flash.proofs.Bumping.{reads_step}
 use Rattle.steady_flash.proofs.starting.find_on.Goals as goal
 
 pub returns-in_err-take_claim-clause-placed : goal.returns-in_err-take_claim-clause-placed
@@ -22,6 +23,7 @@ loop-index-preserved g c =
       same_pages = same;
       found = λ before k f. found_step (g.F.MarkedFlash.size c.args.flash.now) (g.F.MarkedFlash.marks c.args.flash.now) before c.loop-index.layout c.take_claim.new.layout c.args.at c.loop-index.index c.read_mark-read.result k in_pages in_page read (c.loop-index.invariant.found before k f) c.take_claim.ensures.same_pages c.in_ok-take_claim.ensures.taken c.in_ok-take_claim.ensures.greatest;
       read = λ f. read_step (g.F.MarkedFlash.size c.args.flash.now) (g.F.MarkedFlash.marks c.args.flash.now) c.loop-index.layout c.take_claim.new.layout c.args.at c.loop-index.index c.read_mark-read.result read (c.loop-index.invariant.read f) c.take_claim.ensures.same_pages c.in_ok-take_claim.ensures.taken c.in_ok-take_claim.ensures.greatest;
+      reads = λ r. reads_step (g.F.MarkedFlash.size c.args.flash.now) (g.F.MarkedFlash.marks c.args.flash.now) c.loop-index.layout c.take_claim.new.layout c.args.at c.loop-index.index c.read_mark-read.result read c.take_claim.ensures.same_pages c.in_ok-take_claim.ensures.taken c.in_ok-take_claim.ensures.greatest (c.loop-index.invariant.reads r);
     }
 
 pub returns-in_err-take_claim-clause-ours : goal.returns-in_err-take_claim-clause-ours

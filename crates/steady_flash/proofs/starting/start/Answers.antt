@@ -15,3 +15,18 @@ returns-in-Err-Named-clause-complete g c = λ h before k o room.
     let pages : before.pages ≡ c.pages-count.result - 1 = omega (arith, k.laid_out.placed.served.count) in
     let done = c.settle_all.ensures.complete h before k pages (rw pages at o) room in
     absurd (search rules)
+
+pub returns-in-Ok-clause-sound : goal.returns-in-Ok-clause-sound
+returns-in-Ok-clause-sound g c = λ before k.
+    let pages : before.layout.pages ≡ c.pages-count.result - 1 = omega (arith, k.laid_out.placed.served.count) in
+    c.in-Ok.ensures.sound before k pages
+
+pub returns-in-Err-Named-clause-sound : goal.returns-in-Err-Named-clause-sound
+returns-in-Err-Named-clause-sound g c = λ before k.
+    let pages : before.layout.pages ≡ c.pages-count.result - 1 = omega (arith, k.laid_out.placed.served.count) in
+    c.in-Err-Named.ensures.sound before k pages
+
+pub returns-in-Err-clause-sound : goal.returns-in-Err-clause-sound
+returns-in-Err-clause-sound g c = λ before k.
+    let pages : before.layout.pages ≡ c.pages-count.result - 1 = omega (arith, k.laid_out.placed.served.count) in
+    c.in-Err.ensures.sound before k pages

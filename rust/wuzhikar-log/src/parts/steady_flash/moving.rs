@@ -119,6 +119,25 @@ fn copied<F: MarkedFlash>(
     }
 }
 
+/// Claims the spare page for a page of the log, with the next number. Behind a fault a start may find the claim, or not.
+fn claim_spare<F: MarkedFlash>(
+    flash: &mut F,
+    layout: &Layout,
+    page: usize,
+    number: u32,
+) -> Result<(), Stop> {
+    let to = layout.spare;
+    match program_mark(
+        flash,
+        to,
+        claim(0),
+        claim_bytes(layout.place(to), page, number),
+    ) {
+        Ok(()) => Ok(()),
+        Err(_) => Err(Stop::InDoubt),
+    }
+}
+
 /// From the moment at which its claim is whole the spare page counts, and the one that did is spare.
 pub fn switch<F: MarkedFlash>(flash: &mut F, layout: &mut Layout, page: usize) -> Result<(), Stop> {
     let old = layout.held[page];
@@ -127,16 +146,7 @@ pub fn switch<F: MarkedFlash>(flash: &mut F, layout: &mut Layout, page: usize) -
         return Err(Stop::Named(MountError::Worn));
     }
     program_mark(flash, old.page as usize, about(old.index as u16), ZEROS)?;
-    if program_mark(
-        flash,
-        to,
-        claim(0),
-        claim_bytes(layout.place(to), page, old.number + 1),
-    )
-    .is_err()
-    {
-        return Err(Stop::InDoubt);
-    }
+    claim_spare(flash, layout, page, old.number + 1)?;
     layout.held[page] = Held {
         page: to as u8,
         index: 0,
@@ -179,34 +189,50 @@ pub fn erase_page<F: MarkedFlash>(
 /// The page that counts claims a number above each that another one may have begun to claim.
 pub fn bump<F: MarkedFlash>(flash: &mut F, layout: &mut Layout, page: usize) -> Result<(), Stop> {
     let held = layout.held[page];
-    let at = held.page as usize;
-    let index = held.index as u16;
-    let number = held.number;
-    if (index + 1) as usize >= flash.triples() {
+    if held.index as usize + 1 >= flash.triples() {
         return Err(Stop::Named(MountError::OutOfMarks));
     }
-    if number + 2 > LAST_NUMBER {
+    if held.number + 2 > LAST_NUMBER {
         return Err(Stop::Named(MountError::Worn));
     }
-    program_mark(flash, at, about(index), ZEROS)?;
-    // Firm from here on, whatever it was.
+    make_firm(flash, layout, page)?;
+    outbid(flash, layout, page)
+}
+
+/// The claim that a page was found by is firm from here on, whatever it was, and the mark before a greater one is whole.
+fn make_firm<F: MarkedFlash>(flash: &mut F, layout: &Layout, page: usize) -> Result<(), Stop> {
+    let held = layout.held[page];
+    let at = held.page as usize;
+    program_mark(flash, at, about(held.index as u16), ZEROS)?;
     program_mark(
         flash,
         at,
-        claim(index),
-        claim_bytes(layout.place(at), page, number),
-    )?;
-    program_mark(
-        flash,
-        at,
-        claim(index + 1),
-        claim_bytes(layout.place(at), page, number + 2),
-    )?;
-    layout.held[page] = Held {
-        page: at as u8,
-        index: (index + 1) as u8,
-        number: number + 2,
+        claim(held.index as u16),
+        claim_bytes(layout.place(at), page, held.number),
+    )
+}
+
+/// The page claims the number after the next one.
+fn outbid<F: MarkedFlash>(flash: &mut F, layout: &mut Layout, page: usize) -> Result<(), Stop> {
+    let held = layout.held[page];
+    let at = held.page as usize;
+    let next = Held {
+        page: held.page,
+        index: held.index + 1,
+        number: held.number + 2,
         is_opened: false,
     };
-    program_mark(flash, at, done(index + 1), done_bytes(layout.place(at)))
+    program_mark(
+        flash,
+        at,
+        claim(next.index as u16),
+        claim_bytes(layout.place(at), page, next.number),
+    )?;
+    layout.held[page] = next;
+    program_mark(
+        flash,
+        at,
+        done(next.index as u16),
+        done_bytes(layout.place(at)),
+    )
 }
