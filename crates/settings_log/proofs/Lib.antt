@@ -1,1 +1,5 @@
 pub mod Lost
+pub mod Slots
+pub mod History
+pub mod Heads
+pub mod Lookup

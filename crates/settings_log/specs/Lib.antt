@@ -1,3 +1,5 @@
 pub mod Pages
 pub mod Changes
+pub mod Words
+pub mod Values
 pub mod representation

@@ -5,9 +5,11 @@ ghost use Rattle.flash_model.specs.declared.TheConstants.{PAGE_SLOTS};
 ghost use Rattle.flash_model.specs.Image.{page_count, slot_at};
 ghost use Rattle.records.specs.Slots.{slot_of};
 ghost use Rattle.settings_log.specs.Pages.{word_of};
+ghost use Rattle.settings_log.specs.Values.{kind_at};
+ghost use Rattle.settings_log.specs.representation.Kinds.{head_in, IsShortHead};
 
 use crate::store::SettingsError;
-use crate::words::{Head, Word, head_of_word, word_kind};
+use crate::words::{Head, Word, word_kind};
 use flash_model::{NorFlash, PAGE_SLOTS};
 use records::{Slot, classify, encode};
 
@@ -27,8 +29,11 @@ pub fn word_in<F: NorFlash>(flash: &F, page: usize, slot: usize) -> Option<u32>
 }
 
 /// What a slot is to a change.
+#[tactic(auto, unfolding(crate::specs::Words::kind_of))]
 pub fn kind_in<F: NorFlash>(flash: &F, page: usize, slot: usize) -> Word
     requires { page < page_count (F.image flash.now) }
+    ensures kind { slot < PAGE_SLOTS → result ≡ kind_at (F.image flash.now) page slot }
+    ensures short { IsShortHead result }
 {
     match word_in(flash, page, slot) {
         Some(word) => word_kind(word),
@@ -39,11 +44,12 @@ pub fn kind_in<F: NorFlash>(flash: &F, page: usize, slot: usize) -> Word
 /// The head that a slot holds.
 pub fn head_in<F: NorFlash>(flash: &F, page: usize, slot: usize) -> Option<Head>
     requires { page < page_count (F.image flash.now) }
-    ensures { IfSome result (λ head. head.len ≤ 1024) }
+    ensures head { slot < PAGE_SLOTS → result ≡ head_in (kind_at (F.image flash.now) page slot) }
+    ensures short { IfSome result (λ head. head.len ≤ 1024) }
 {
-    match word_in(flash, page, slot) {
-        Some(word) => head_of_word(word),
-        None => None,
+    match kind_in(flash, page, slot) {
+        Word::Begins(head) => Some(head),
+        Word::Data | Word::Other => None,
     }
 }
 

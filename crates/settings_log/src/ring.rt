@@ -1,8 +1,9 @@
 //! The pages as a ring: which of them count.
 
-ghost use Rattle.std.specs.Prelude.{◌≡◌, ◌<◌, ◌≤◌, ◌+◌, ◌-◌, ◌%◌, ◌^◌, ◌↔◌, ℕ, IfSome, IsSome, IsSomeAnd, IsOk, IsTrue, Some, Err};
+ghost use Rattle.std.specs.Prelude.{◌≡◌, ◌<◌, ◌≤◌, ◌+◌, ◌-◌, ◌%◌, ◌^◌, ◌↔◌, ℕ, IfSome, IsSome, IsSomeAnd, IsOk, IsTrue, MatchOption, Some, Ok, Err, []};
 ghost use Rattle.flash_model.specs.Image.{page_count};
 ghost use Rattle.settings_log.specs.Pages.{number_at, IsForeign, IsLost, IsWhole};
+ghost use Rattle.settings_log.specs.Values.{newest_of, greater, heads_before, heads_on};
 ghost use Rattle.settings_log.specs.representation.Ring.{IsBest, IsLater};
 ghost use Rattle.settings_log.specs.declared.store.SettingsError.{SettingsError};
 
@@ -43,9 +44,11 @@ fn number_in<F: NorFlash>(flash: &F, page: usize) -> Option<u32>
 }
 
 /// The greatest number of a page, if any has one.
+#[tactic(auto, using(crate::proofs::History::newest_none, crate::proofs::History::newest_more))]
 pub fn newest<F: NorFlash>(flash: &F) -> Option<u32>
     ensures small { IfSome result (λ number. number < 2 ^ 28) }
     ensures greatest { IsBest (F.image flash.now) (page_count (F.image flash.now)) result }
+    ensures value { result ≡ newest_of (F.image flash.now) (page_count (F.image flash.now)) }
 {
     let mut best = None;
     for page in 0..flash.pages() {
@@ -60,6 +63,7 @@ fn later(best: Option<u32>, number: Option<u32>) -> Option<u32>
     requires number { IfSome number (λ number. number < 2 ^ 28) }
     ensures small { IfSome result (λ number. number < 2 ^ 28) }
     ensures greater { IsLater best number result }
+    ensures value { result ≡ greater best number }
 {
     match (best, number) {
         (Some(a), Some(b)) => { if b > a { Some(b) } else { Some(a) } }
@@ -69,9 +73,11 @@ fn later(best: Option<u32>, number: Option<u32>) -> Option<u32>
 }
 
 /// The page so many before the newest, if it counts.
+#[tactic(auto, using(crate::proofs::History::before_counts, crate::proofs::History::before_not, crate::proofs::History::before_early))]
 pub fn counting<F: NorFlash>(flash: &F, newest: u32, back: usize) -> Option<usize>
     ensures in_pages { IfSome result (λ page. page < page_count (F.image flash.now)) }
     ensures counts { back + 1 < page_count (F.image flash.now) → back ≤ newest → (IsSome result ↔ (number_at (F.image flash.now) ((newest - back) % page_count (F.image flash.now)) ≡ Some (newest - back))) }
+    ensures heads { back + 1 < page_count (F.image flash.now) → MatchOption result (heads_before (F.image flash.now) newest back ≡ []) (λ page. heads_before (F.image flash.now) newest back ≡ heads_on (F.image flash.now) page) }
 {
     if back >= flash.pages() - 1 || back > newest as usize {
         return None;
@@ -91,6 +97,7 @@ pub fn usable<F: NorFlash>(flash: &F) -> Result<(), SettingsError>
     ensures foreign { (page : ℕ) → IsForeign (F.image flash.now) page → result ≡ Err SettingsError.Foreign }
     ensures damaged { ((page : ℕ) → IsForeign (F.image flash.now) page → ⊥) → (IsWhole (F.image flash.now) → ⊥) → result ≡ Err SettingsError.Damaged }
     ensures whole { IsOk result → IsWhole (F.image flash.now) }
+    ensures usable { ((page : ℕ) → IsForeign (F.image flash.now) page → ⊥) → IsWhole (F.image flash.now) → result ≡ Ok tt }
     ensures only_then { result ≡ Err SettingsError.Foreign → ((page : ℕ) × IsForeign (F.image flash.now) page) }
 {
     for page in 0..flash.pages() {

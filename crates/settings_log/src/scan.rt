@@ -1,7 +1,12 @@
 //! The last change in force of some ids.
 
-ghost use Rattle.std.specs.Prelude.{◌≡◌, ◌+◌, ◌<◌, ◌≤◌, ◌^◌, IfSome, length};
+ghost use Rattle.std.specs.Prelude.{◌≡◌, ◌+◌, ◌<◌, ◌≤◌, ◌^◌, ◌↔◌, ℕ, List, ◌∷◌, IfSome, IsSomeAnd, IsTrue, None, length};
+ghost use Rattle.settings_log.specs.declared.words.Word.{Word};
+ghost use Rattle.settings_log.specs.declared.scan.Entry.{Entry};
 ghost use Rattle.flash_model.specs.Image.{page_count};
+ghost use Rattle.settings_log.specs.Values.{kind_at, heads_on, heads_before, last_of};
+ghost use Rattle.settings_log.specs.representation.Kinds.{IsShortHead};
+ghost use Rattle.settings_log.specs.representation.Scan.{EachEntry, GoesOn, IsFoundOn, IsSettled, Waits, noted, come, outcome, place_of};
 
 use crate::operation::kind_in;
 use crate::ring::counting;
@@ -22,7 +27,7 @@ pub struct Entry {
     /// The head of its last change in force.
     pub found: Option<Place>,
     /// Its last head in a change whose words have not all come.
-    pub open: Option<Place>,
+    pub coming: Option<Place>,
 }
 
 /// A change whose words have not all come.
@@ -36,12 +41,12 @@ struct Open {
 
 /// An id of which nothing is known.
 pub fn unknown(id: u16) -> Entry
-    ensures { result.id ≡ id }
+    ensures { result ≡ record { id = id; found = None; coming = None } }
 {
     Entry {
         id,
         found: None,
-        open: None,
+        coming: None,
     }
 }
 
@@ -58,7 +63,9 @@ pub fn find_since<F: NorFlash>(flash: &F, newest: u32, back: usize, entries: &mu
 }
 
 /// The last change in force of an id on the page so many before the newest.
-pub fn last_on<F: NorFlash>(flash: &F, newest: u32, back: usize, id: u16) -> Option<Place> {
+pub fn last_on<F: NorFlash>(flash: &F, newest: u32, back: usize, id: u16) -> Option<Place>
+    ensures { back + 1 < page_count (F.image flash.now) → result ≡ place_of (last_of id (heads_before (F.image flash.now) newest back)) }
+{
     let Some(page) = counting(flash, newest, back) else {
         return None;
     };
@@ -70,43 +77,45 @@ pub fn last_on<F: NorFlash>(flash: &F, newest: u32, back: usize, id: u16) -> Opt
 /// The last changes in force of some ids, where the page has any.
 fn find_on<F: NorFlash>(flash: &F, page: usize, entries: &mut [Entry])
     requires { page < page_count (F.image flash.now) }
-    ensures { length entries.new ≡ length entries.old }
+    ensures { EachEntry (IsFoundOn (heads_on (F.image flash.now) page)) entries.old entries.new }
 {
     let _pages = flash.pages();
-    let mut open = None;
+    let mut pending = None;
     for slot in 1..PAGE_SLOTS {
         let place = Place {
             page: page as u8,
             slot: slot as u16,
         };
-        open = after(open, kind_in(flash, page, slot), place, entries);
+        pending = after(pending, kind_in(flash, page, slot), place, entries);
     }
 }
 
 /// What has not all come after one slot more.
-fn after(open: Option<Open>, word: Word, place: Place, entries: &mut [Entry]) -> Option<Open>
-    ensures { length entries.new ≡ length entries.old }
+fn after(pending: Option<Open>, word: Word, place: Place, entries: &mut [Entry]) -> Option<Open>
+    requires waits { Waits pending }
+    requires short { IsShortHead word }
+    ensures waits { Waits result }
+    ensures goes_on { EachEntry (GoesOn place.page place.slot word pending result) entries.old entries.new }
 {
-    let open = match word {
-        Word::Data => after_data(open),
-        Word::Head(head) => after_head(open, head, place, entries),
+    match word {
+        Word::Data => settled(after_data(pending), entries),
+        Word::Begins(head) => after_head(pending, head, place, entries),
         Word::Other => None,
-    };
-    if is_all(open) {
-        come_in_force(entries);
-        return None;
     }
-    open
 }
 
 /// A word of a value more.
-fn after_data(open: Option<Open>) -> Option<Open> {
-    match open {
-        Some(open) => {
-            if open.left > 0 {
+#[tactic(auto, using(crate::proofs::Slots::data_after, crate::proofs::Slots::data_none, crate::proofs::Slots::data_ends))]
+fn after_data(pending: Option<Open>) -> Option<Open>
+    requires { Waits pending }
+    ensures { (page slot : ℕ) (entry : Entry) (rest : List Word) → outcome page entry result (slot + 1) rest ≡ outcome page entry pending slot (Word.Data ∷ rest) }
+{
+    match pending {
+        Some(pending) => {
+            if pending.left > 0 {
                 Some(Open {
-                    left: open.left - 1,
-                    last: open.last,
+                    left: pending.left - 1,
+                    last: pending.last,
                 })
             } else {
                 None
@@ -117,64 +126,105 @@ fn after_data(open: Option<Open>) -> Option<Open> {
 }
 
 /// A head more: the first one of a change, or the next one where all words of the one before have come.
-fn after_head(open: Option<Open>, head: Head, place: Place, entries: &mut [Entry]) -> Option<Open>
-    ensures { length entries.new ≡ length entries.old }
+fn after_head(
+    pending: Option<Open>,
+    head: Head,
+    place: Place,
+    entries: &mut [Entry],
+) -> Option<Open>
+    requires waits { Waits pending }
+    requires short { head.len ≤ 1024 }
+    ensures waits { Waits result }
+    ensures goes_on { EachEntry (GoesOn place.page place.slot (Word.Begins head) pending result) entries.old entries.new }
 {
-    if head.first {
-        forget(entries);
-    } else if !waits_for_head(open) {
+    if !head.first && !waits_for_head(pending) {
         return None;
     }
-    note(entries, head.id, place);
-    Some(Open {
-        left: data_words(head.len),
-        last: head.last,
-    })
+    note(entries, head, place);
+    settled(
+        Some(Open {
+            left: data_words(head.len),
+            last: head.last,
+        }),
+        entries,
+    )
 }
 
 /// Whether a change goes on with a head.
-fn waits_for_head(open: Option<Open>) -> bool {
-    match open {
-        Some(open) => open.left == 0,
+fn waits_for_head(pending: Option<Open>) -> bool
+    ensures { IsTrue result ↔ IsSomeAnd pending (λ o. o.left ≡ 0) }
+{
+    match pending {
+        Some(pending) => pending.left == 0,
         None => false,
     }
 }
 
-/// Whether all words of a change have come.
-fn is_all(open: Option<Open>) -> bool {
-    match open {
-        Some(open) => open.left == 0 && open.last,
-        None => false,
-    }
-}
-
-/// No id has a head in a change whose words have not all come.
-fn forget(entries: &mut [Entry])
-    ensures { length entries.new ≡ length entries.old }
+/// What has not all come of a change, which is in force where nothing is to come.
+fn settled(pending: Option<Open>, entries: &mut [Entry]) -> Option<Open>
+    ensures waits { Waits result }
+    ensures same { EachEntry (IsSettled pending result) entries.old entries.new }
 {
-    for entry in entries.iter_mut() {
-        entry.open = None;
-    }
-}
-
-/// A head of an id in a change whose words have not all come.
-fn note(entries: &mut [Entry], id: u16, place: Place)
-    ensures { length entries.new ≡ length entries.old }
-{
-    for entry in entries.iter_mut() {
-        if entry.id == id {
-            entry.open = Some(place);
+    match pending {
+        Some(pending) => {
+            if pending.left == 0 && pending.last {
+                come_in_force(entries);
+                None
+            } else {
+                Some(pending)
+            }
         }
+        None => None,
+    }
+}
+
+/// A head in a change whose words have not all come. Where it is the first one, nothing is known of others.
+fn note(entries: &mut [Entry], head: Head, place: Place)
+    ensures { EachEntry (λ old new. new ≡ noted head place old) entries.old entries.new }
+{
+    for entry in entries.iter_mut() {
+        *entry = noted(*entry, head, place);
+    }
+}
+
+/// An entry with a head more.
+fn noted(entry: Entry, head: Head, place: Place) -> Entry
+    ensures { result ≡ noted head place entry }
+{
+    let coming = if entry.id == head.id {
+        Some(place)
+    } else if head.first {
+        None
+    } else {
+        entry.coming
+    };
+    Entry {
+        id: entry.id,
+        found: entry.found,
+        coming,
     }
 }
 
 /// All words of a change have come.
 fn come_in_force(entries: &mut [Entry])
-    ensures { length entries.new ≡ length entries.old }
+    ensures { EachEntry (λ old new. new ≡ come old) entries.old entries.new }
 {
     for entry in entries.iter_mut() {
-        if entry.open.is_some() {
-            entry.found = entry.open;
-        }
+        *entry = come(*entry);
+    }
+}
+
+/// An entry whose head has come.
+fn come(entry: Entry) -> Entry
+    ensures { result ≡ come entry }
+{
+    let found = match entry.coming {
+        Some(place) => Some(place),
+        None => entry.found,
+    };
+    Entry {
+        id: entry.id,
+        found,
+        coming: entry.coming,
     }
 }

@@ -1,9 +1,14 @@
 //! The calls of settings.
 
-ghost use Rattle.std.specs.Prelude.{◌≡◌, ◌+◌, ◌<◌, ◌≤◌, ◌^◌, ℕ, IfSome, IfOk, MatchResult, All, Some, None, Err, length};
+ghost use Rattle.std.specs.Prelude.{◌≡◌, ◌+◌, ◌<◌, ◌≤◌, ◌^◌, ◌↔◌, ℕ, IsTrue, IfSome, IfOk, IsOk, MatchResult, All, Some, None, Err, length, slice_index, take, option_map, if◌then◌else◌};
 ghost use Rattle.flash_model.specs.Image.{page_count};
-ghost use Rattle.settings_log.specs.Changes.{IsShort};
+ghost use Rattle.settings_log.specs.Changes.{IsShort, Holds};
 ghost use Rattle.settings_log.specs.Pages.{IsForeign, IsWhole};
+ghost use Rattle.settings_log.specs.Values.{kind_at, value_of, bytes_behind, IsRead};
+ghost use Rattle.settings_log.specs.Words.{data_words};
+ghost use Rattle.settings_log.specs.representation.Here.{Stands, DataFrom};
+ghost use Rattle.settings_log.specs.declared.words.Head.{Head};
+ghost use Rattle.settings_log.specs.declared.words.Word.{Word};
 ghost use Rattle.settings_log.specs.declared.store.SettingsError.{SettingsError};
 
 use crate::change::{Change, head_of, size, word_at};
@@ -11,7 +16,7 @@ use crate::moving::{advance, words_alive};
 use crate::operation::{head_in, put, tail, word_in};
 use crate::ring::{counting, newest, usable};
 use crate::scan::{Place, last_on};
-use crate::words::{Head, data_word, data_words, word_bytes};
+use crate::words::{Head, data_words, word_bytes};
 use flash_model::{NorFlash, PAGE_SLOTS};
 
 /// Why a change was not stored, or a value not read. All values are as before.
@@ -21,7 +26,7 @@ pub enum SettingsError {
     TooLong,
     /// Slot 0 of a page holds a word that is no header of its place: something else wrote there.
     Foreign,
-    /// Slot 0 of a page is not sound, a page that should count has lost its header, or the words of a value can't be read again.
+    /// Slot 0 of a page is not sound, a page that should count has lost its header, or a flash reads otherwise than before.
     Damaged,
     /// The changes find no page with room for them.
     Full,
@@ -35,8 +40,10 @@ pub enum SettingsError {
 const SET_SLOTS: usize = PAGE_SLOTS - 1;
 
 /// How many bytes the value of an id has, if it has one.
+#[tactic(auto, using(crate::proofs::Lookup::value_length))]
 pub fn length<F: NorFlash>(flash: &F, id: u16) -> Option<usize>
-    ensures { IfSome result (λ bytes. bytes ≤ 1024) }
+    ensures length { result ≡ option_map (λ bytes. length bytes) (value_of (F.image flash.now) id) }
+    ensures short { IfSome result (λ bytes. bytes ≤ 1024) }
 {
     match value_place(flash, id) {
         Some((_, head)) => Some(head.len as usize),
@@ -46,8 +53,9 @@ pub fn length<F: NorFlash>(flash: &F, id: u16) -> Option<usize>
 
 /// Reads the value of an id into the first of the bytes that are lent, and says how many they are; `None` where it has none.
 ///
-/// `TooLong` where it has more bytes than are lent, and `Damaged` where its words can't be read again.
+/// `TooLong` where it has more bytes than are lent.
 pub fn get<F: NorFlash>(flash: &F, id: u16, into: &mut [u8]) -> Result<Option<usize>, SettingsError>
+    ensures value { IsRead (value_of (F.image flash.now) id) result into.old into.new }
     ensures length { length into.new ≡ length into.old }
     ensures within { IfOk result (λ read. IfSome read (λ bytes. bytes ≤ length into.new)) }
 {
@@ -71,7 +79,9 @@ pub fn get<F: NorFlash>(flash: &F, id: u16, into: &mut [u8]) -> Result<Option<us
 fn copy_three(into: &mut [u8], at: usize, end: usize, bytes: [u8; 3])
     requires at { at ≤ 2 ^ 16 }
     requires end { end ≤ length into.old }
-    ensures { length into.new ≡ length into.old }
+    ensures length { length into.new ≡ length into.old }
+    ensures here { (k : ℕ) → k < 3 → at + k < end → slice_index into.new (at + k) ≡ slice_index bytes k }
+    ensures others { (j : ℕ) → (at ≤ j → j < end → at + 3 ≤ j) → slice_index into.new j ≡ slice_index into.old j }
 {
     for k in 0..3 {
         if at + k < end {
@@ -82,7 +92,9 @@ fn copy_three(into: &mut [u8], at: usize, end: usize, bytes: [u8; 3])
 
 /// Where the value of an id stands, with its head.
 fn value_place<F: NorFlash>(flash: &F, id: u16) -> Option<(Place, Head)>
-    ensures { IfSome result (λ found. (found.0.page < page_count (F.image flash.now)) × (found.1.len ≤ 1024)) }
+    ensures none { result ≡ None → value_of (F.image flash.now) id ≡ None }
+    ensures some { IfSome result (λ found. Stands (F.image flash.now) id found.0 found.1) }
+    ensures short { IfSome result (λ found. (found.0.page < page_count (F.image flash.now)) × (found.1.len ≤ 1024)) }
 {
     let Some(newest) = newest(flash) else {
         return None;
@@ -97,7 +109,9 @@ fn value_place<F: NorFlash>(flash: &F, id: u16) -> Option<(Place, Head)>
 
 /// A change that gives a value, with its head; none where it takes one.
 fn value_at<F: NorFlash>(flash: &F, place: Place) -> Option<(Place, Head)>
-    ensures { IfSome result (λ found. (found.0.page < page_count (F.image flash.now)) × (found.1.len ≤ 1024)) }
+    ensures head { (head : Head) → place.slot < 512 → place.page < page_count (F.image flash.now) → kind_at (F.image flash.now) place.page place.slot ≡ Word.Begins head
+        → result ≡ (if head.removal then None else Some (place, head)) }
+    ensures short { IfSome result (λ found. (found.0.page < page_count (F.image flash.now)) × (found.1.len ≤ 1024)) }
 {
     if place.page as usize >= flash.pages() {
         return None;
@@ -119,6 +133,7 @@ pub fn set<F: NorFlash>(flash: &mut F, id: u16, bytes: &[u8]) -> Result<(), Sett
     ensures too_long { 1024 < length bytes.now → (result ≡ Err SettingsError.TooLong) × (flash.new ≡ flash.old) }
     ensures foreign { (page : ℕ) → IsForeign (F.image flash.old) page → length bytes.now ≤ 1024 → (result ≡ Err SettingsError.Foreign) × (flash.new ≡ flash.old) }
     ensures damaged { ((page : ℕ) → IsForeign (F.image flash.old) page → ⊥) → (IsWhole (F.image flash.old) → ⊥) → length bytes.now ≤ 1024 → (result ≡ Err SettingsError.Damaged) × (flash.new ≡ flash.old) }
+    ensures same { ((page : ℕ) → IsForeign (F.image flash.old) page → ⊥) → IsWhole (F.image flash.old) → length bytes.now ≤ 1024 → value_of (F.image flash.old) id ≡ Some bytes.now → IsOk result × (flash.new ≡ flash.old) }
 {
     transaction(
         flash,
@@ -133,6 +148,7 @@ pub fn set<F: NorFlash>(flash: &mut F, id: u16, bytes: &[u8]) -> Result<(), Sett
 pub fn remove<F: NorFlash>(flash: &mut F, id: u16) -> Result<(), SettingsError>
     ensures foreign { (page : ℕ) → IsForeign (F.image flash.old) page → (result ≡ Err SettingsError.Foreign) × (flash.new ≡ flash.old) }
     ensures damaged { ((page : ℕ) → IsForeign (F.image flash.old) page → ⊥) → (IsWhole (F.image flash.old) → ⊥) → (result ≡ Err SettingsError.Damaged) × (flash.new ≡ flash.old) }
+    ensures same { ((page : ℕ) → IsForeign (F.image flash.old) page → ⊥) → IsWhole (F.image flash.old) → value_of (F.image flash.old) id ≡ None → IsOk result × (flash.new ≡ flash.old) }
 {
     transaction(flash, &[Change { id, value: None }])
 }
@@ -146,6 +162,7 @@ pub fn transaction<F: NorFlash>(flash: &mut F, changes: &[Change<'_>]) -> Result
     ensures too_long { (All (λ change. IsShort change) changes.now → ⊥) → (result ≡ Err SettingsError.TooLong) × (flash.new ≡ flash.old) }
     ensures foreign { (page : ℕ) → IsForeign (F.image flash.old) page → All (λ change. IsShort change) changes.now → (result ≡ Err SettingsError.Foreign) × (flash.new ≡ flash.old) }
     ensures damaged { ((page : ℕ) → IsForeign (F.image flash.old) page → ⊥) → (IsWhole (F.image flash.old) → ⊥) → All (λ change. IsShort change) changes.now → (result ≡ Err SettingsError.Damaged) × (flash.new ≡ flash.old) }
+    ensures same { ((page : ℕ) → IsForeign (F.image flash.old) page → ⊥) → IsWhole (F.image flash.old) → All (λ change. IsShort change) changes.now → All (λ change. Holds (F.image flash.old) change) changes.now → IsOk result × (flash.new ≡ flash.old) }
 {
     let words = words_of(changes)?;
     usable(flash)?;
@@ -190,7 +207,9 @@ fn end_for(changes: &[Change<'_>]) -> usize
 }
 
 /// Whether each id has the value already that it is given.
-fn all_hold<F: NorFlash>(flash: &F, changes: &[Change<'_>]) -> bool {
+fn all_hold<F: NorFlash>(flash: &F, changes: &[Change<'_>]) -> bool
+    ensures { IsTrue result ↔ All (λ change. Holds (F.image flash.now) change) changes.now }
+{
     for change in changes {
         if !holds(flash, change) {
             return false;
@@ -200,27 +219,49 @@ fn all_hold<F: NorFlash>(flash: &F, changes: &[Change<'_>]) -> bool {
 }
 
 /// Whether an id has the value already that it is given.
-fn holds<F: NorFlash>(flash: &F, change: &Change<'_>) -> bool {
+fn holds<F: NorFlash>(flash: &F, change: &Change<'_>) -> bool
+    ensures { IsTrue result ↔ Holds (F.image flash.now) change.now }
+{
     let held = value_place(flash, change.id);
     match change.value {
         None => held.is_none(),
         Some(bytes) => match held {
             Some((place, head)) => head.len as usize == bytes.len()
-                && has_bytes(flash, place, bytes),
+                && has_bytes(flash, place, head, bytes),
             None => false,
         },
     }
 }
 
 /// Whether the words behind a head are those of a value.
-fn has_bytes<F: NorFlash>(flash: &F, place: Place, bytes: &[u8]) -> bool
+fn has_bytes<F: NorFlash>(flash: &F, place: Place, head: Head, bytes: &[u8]) -> bool
     requires page { place.page < page_count (F.image flash.now) }
-    requires length { length bytes.now ≤ 1024 }
+    requires length { length bytes.now ≡ head.len }
+    requires short { head.len ≤ 1024 }
+    requires words { DataFrom (F.image flash.now) place.page (place.slot + 1) (data_words head.len) }
+    ensures { IsTrue result ↔ (take head.len (bytes_behind (F.image flash.now) place.page place.slot (data_words head.len)) ≡ bytes.now) }
 {
-    for at in 0..data_words(bytes.len() as u16) as usize {
-        if word_in(flash, place.page as usize, place.slot as usize + 1 + at)
-            != Some(data_word(bytes, 3 * at))
-        {
+    let words = data_words(head.len) as usize;
+    for at in 0..words {
+        match word_in(flash, place.page as usize, place.slot as usize + 1 + at) {
+            Some(word) => {
+                if !has_three(bytes, 3 * at, word_bytes(word)) {
+                    return false;
+                }
+            }
+            None => return false,
+        }
+    }
+    true
+}
+
+/// Whether three bytes stand at a place, as far as there are so many.
+fn has_three(bytes: &[u8], at: usize, three: [u8; 3]) -> bool
+    requires { at ≤ 2 ^ 16 }
+    ensures { IsTrue result ↔ ((k : ℕ) → k < 3 → at + k < length bytes.now → slice_index bytes.now (at + k) ≡ slice_index three k) }
+{
+    for k in 0..3 {
+        if at + k < bytes.len() && bytes[at + k] != three[k] {
             return false;
         }
     }

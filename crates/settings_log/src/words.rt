@@ -2,6 +2,8 @@
 
 ghost use Rattle.std.specs.Prelude.{◌≡◌, ◌+◌, ◌*◌, ◌/◌, ◌%◌, ◌<◌, ◌≤◌, ◌^◌, Some, None, MatchOption, IfSome};
 ghost use Rattle.settings_log.specs.Pages.{number_of};
+ghost use Rattle.settings_log.specs.Words.{head_of, kind_of, data_words, word_bytes};
+ghost use Rattle.settings_log.specs.representation.Kinds.{IsShortHead};
 
 /// The most bytes that a value has.
 pub const MAX_BYTES: usize = 1024;
@@ -48,7 +50,8 @@ pub struct Head {
 pub enum Word {
     /// Three bytes of a value.
     Data,
-    Head(Head),
+    /// The words of an id begin.
+    Begins(Head),
     /// No word of a change.
     Other,
 }
@@ -75,32 +78,39 @@ pub fn header(number: u32) -> u32
 }
 
 /// What a word is to a change.
-pub fn word_kind(word: u32) -> Word {
-    if word < DATA {
+#[tactic(auto, unfolding(crate::specs::Words::kind_of))]
+pub fn word_kind(word: u32) -> Word
+    ensures kind { result ≡ kind_of (Some word) }
+    ensures short { IsShortHead result }
+{
+    if word / DATA == 0 {
         return Word::Data;
     }
     match head_of_word(word) {
-        Some(head) => Word::Head(head),
+        Some(head) => Word::Begins(head),
         None => Word::Other,
     }
 }
 
 /// The head that a word is.
+#[tactic(auto, unfolding(crate::specs::Words::head_of))]
 pub fn head_of_word(word: u32) -> Option<Head>
-    ensures { IfSome result (λ head. head.len ≤ 1024) }
+    ensures head { result ≡ head_of word }
+    ensures short { IfSome result (λ head. head.len ≤ 1024) }
 {
     let len = (word / BYTE_MORE % 2048) as u16;
     let removal = word / REMOVAL % 2 == 1;
-    if word / HEAD != 1 || usize::from(len) > MAX_BYTES || (removal && len > 0) {
-        return None;
+    if word / HEAD == 1 && len <= 1024 && (!removal || len == 0) {
+        Some(Head {
+            id: (word % BYTE_MORE) as u16,
+            len,
+            removal,
+            first: word / FIRST % 2 == 1,
+            last: word / LAST % 2 == 1,
+        })
+    } else {
+        None
     }
-    Some(Head {
-        id: (word % BYTE_MORE) as u16,
-        len,
-        removal,
-        first: word / FIRST % 2 == 1,
-        last: word / LAST % 2 == 1,
-    })
 }
 
 /// The word of a head.
@@ -117,7 +127,8 @@ pub fn head_word(head: Head) -> u32
 
 /// How many words so many bytes take.
 pub fn data_words(len: u16) -> u16
-    ensures { 3 * result ≤ len + 2 }
+    ensures words { result ≡ data_words len }
+    ensures few { 3 * result ≤ len + 2 }
 {
     len / 3 + u16::from(len % 3 > 0)
 }
@@ -141,7 +152,9 @@ fn byte_at(bytes: &[u8], at: usize) -> u32
 }
 
 /// The bytes of a word of data.
-pub fn word_bytes(word: u32) -> [u8; 3] {
+pub fn word_bytes(word: u32) -> [u8; 3]
+    ensures { result ≡ word_bytes word }
+{
     [
         (word % 256) as u8,
         (word / 256 % 256) as u8,

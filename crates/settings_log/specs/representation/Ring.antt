@@ -1,6 +1,6 @@
 -- Representation: what loops over pages know.
 use Rattle.shapes.specs.Shapes.{Bytes}
-use Rattle.std.specs.Prelude.{◌≡◌, ℕ, ◌<◌, ◌≤◌, ◌⊎◌, Option, Some, None, MatchOption, IfSome}
+use Rattle.std.specs.Prelude.{◌≡◌, ℕ, ◌<◌, ◌≤◌, ◌⊎◌, Option, None, MatchOption, IfSome}
 use Rattle.settings_log.specs.Pages.{number_at, IsGreatest}
 
 -- the greatest number of the first pages, if any has one

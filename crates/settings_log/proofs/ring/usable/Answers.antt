@@ -15,3 +15,9 @@ returns-then-is_none-clause-damaged g c none whole =
     let image = g.F.NorFlash.image c.args.flash.now in
     let found : ((page : ℕ) × IsForeign image page) = search rules in
     absurd (none found.0 found.1)
+
+pub returns-then-is_none-clause-usable : goal.returns-then-is_none-clause-usable
+returns-then-is_none-clause-usable g c none whole =
+    let image = g.F.NorFlash.image c.args.flash.now in
+    let found : ((page : ℕ) × IsForeign image page) = search rules in
+    absurd (none found.0 found.1)

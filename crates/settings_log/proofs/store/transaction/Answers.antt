@@ -1,4 +1,4 @@
-use Rattle.std.proofs.Common.{◌≡◌, Err, rules}
+use Rattle.std.proofs.Common.{◌≡◌, ◌∙◌, sym, Ok, Err, rules}
 use Rattle.settings_log.specs.declared.store.SettingsError.TheVariants.{Foreign, Damaged}
 use Rattle.settings_log.proofs.store.transaction.Goals as goal
 
@@ -51,3 +51,9 @@ pub returns-clause-damaged : goal.returns-clause-damaged
 returns-clause-damaged g c none broken short =
     let refused : c.usable.result ≡ Err Damaged = c.usable.ensures.damaged none broken in
     search rules
+
+pub returns-in_err-usable-clause-same : goal.returns-in_err-usable-clause-same
+returns-in_err-usable-clause-same g c none whole short same =
+    let ok : c.usable.result ≡ Ok tt = c.usable.ensures.usable none whole in
+    let failed : c.usable.result ≡ Err c.in_err-usable.field-0.0 = c.in_err-usable.was in
+    absurd (let t : Err c.in_err-usable.field-0.0 ≡ Ok tt = sym failed ∙ ok in cc)

@@ -2,7 +2,7 @@
 //! Reading a slot, and single operations.
 
 use crate::parts::settings_log::store::SettingsError;
-use crate::parts::settings_log::words::{Head, Word, head_of_word, word_kind};
+use crate::parts::settings_log::words::{Head, Word, word_kind};
 use crate::parts::flash_model::{NorFlash, PAGE_SLOTS};
 use crate::parts::records::{Slot, classify, encode};
 
@@ -27,9 +27,9 @@ pub fn kind_in<F: NorFlash>(flash: &F, page: usize, slot: usize) -> Word {
 
 /// The head that a slot holds.
 pub fn head_in<F: NorFlash>(flash: &F, page: usize, slot: usize) -> Option<Head> {
-    match word_in(flash, page, slot) {
-        Some(word) => head_of_word(word),
-        None => None,
+    match kind_in(flash, page, slot) {
+        Word::Begins(head) => Some(head),
+        Word::Data | Word::Other => None,
     }
 }
 

@@ -20,7 +20,7 @@ pub struct Entry {
     /// The head of its last change in force.
     pub found: Option<Place>,
     /// Its last head in a change whose words have not all come.
-    pub open: Option<Place>,
+    pub coming: Option<Place>,
 }
 
 /// A change whose words have not all come.
@@ -37,7 +37,7 @@ pub fn unknown(id: u16) -> Entry {
     Entry {
         id,
         found: None,
-        open: None,
+        coming: None,
     }
 }
 
@@ -63,38 +63,33 @@ pub fn last_on<F: NorFlash>(flash: &F, newest: u32, back: usize, id: u16) -> Opt
 /// The last changes in force of some ids, where the page has any.
 fn find_on<F: NorFlash>(flash: &F, page: usize, entries: &mut [Entry]) {
     let _pages = flash.pages();
-    let mut open = None;
+    let mut pending = None;
     for slot in 1..PAGE_SLOTS {
         let place = Place {
             page: page as u8,
             slot: slot as u16,
         };
-        open = after(open, kind_in(flash, page, slot), place, entries);
+        pending = after(pending, kind_in(flash, page, slot), place, entries);
     }
 }
 
 /// What has not all come after one slot more.
-fn after(open: Option<Open>, word: Word, place: Place, entries: &mut [Entry]) -> Option<Open> {
-    let open = match word {
-        Word::Data => after_data(open),
-        Word::Head(head) => after_head(open, head, place, entries),
+fn after(pending: Option<Open>, word: Word, place: Place, entries: &mut [Entry]) -> Option<Open> {
+    match word {
+        Word::Data => settled(after_data(pending), entries),
+        Word::Begins(head) => after_head(pending, head, place, entries),
         Word::Other => None,
-    };
-    if is_all(open) {
-        come_in_force(entries);
-        return None;
     }
-    open
 }
 
 /// A word of a value more.
-fn after_data(open: Option<Open>) -> Option<Open> {
-    match open {
-        Some(open) => {
-            if open.left > 0 {
+fn after_data(pending: Option<Open>) -> Option<Open> {
+    match pending {
+        Some(pending) => {
+            if pending.left > 0 {
                 Some(Open {
-                    left: open.left - 1,
-                    last: open.last,
+                    left: pending.left - 1,
+                    last: pending.last,
                 })
             } else {
                 None
@@ -105,56 +100,87 @@ fn after_data(open: Option<Open>) -> Option<Open> {
 }
 
 /// A head more: the first one of a change, or the next one where all words of the one before have come.
-fn after_head(open: Option<Open>, head: Head, place: Place, entries: &mut [Entry]) -> Option<Open> {
-    if head.first {
-        forget(entries);
-    } else if !waits_for_head(open) {
+fn after_head(
+    pending: Option<Open>,
+    head: Head,
+    place: Place,
+    entries: &mut [Entry],
+) -> Option<Open> {
+    if !head.first && !waits_for_head(pending) {
         return None;
     }
-    note(entries, head.id, place);
-    Some(Open {
-        left: data_words(head.len),
-        last: head.last,
-    })
+    note(entries, head, place);
+    settled(
+        Some(Open {
+            left: data_words(head.len),
+            last: head.last,
+        }),
+        entries,
+    )
 }
 
 /// Whether a change goes on with a head.
-fn waits_for_head(open: Option<Open>) -> bool {
-    match open {
-        Some(open) => open.left == 0,
+fn waits_for_head(pending: Option<Open>) -> bool {
+    match pending {
+        Some(pending) => pending.left == 0,
         None => false,
     }
 }
 
-/// Whether all words of a change have come.
-fn is_all(open: Option<Open>) -> bool {
-    match open {
-        Some(open) => open.left == 0 && open.last,
-        None => false,
-    }
-}
-
-/// No id has a head in a change whose words have not all come.
-fn forget(entries: &mut [Entry]) {
-    for entry in entries.iter_mut() {
-        entry.open = None;
-    }
-}
-
-/// A head of an id in a change whose words have not all come.
-fn note(entries: &mut [Entry], id: u16, place: Place) {
-    for entry in entries.iter_mut() {
-        if entry.id == id {
-            entry.open = Some(place);
+/// What has not all come of a change, which is in force where nothing is to come.
+fn settled(pending: Option<Open>, entries: &mut [Entry]) -> Option<Open> {
+    match pending {
+        Some(pending) => {
+            if pending.left == 0 && pending.last {
+                come_in_force(entries);
+                None
+            } else {
+                Some(pending)
+            }
         }
+        None => None,
+    }
+}
+
+/// A head in a change whose words have not all come. Where it is the first one, nothing is known of others.
+fn note(entries: &mut [Entry], head: Head, place: Place) {
+    for entry in entries.iter_mut() {
+        *entry = noted(*entry, head, place);
+    }
+}
+
+/// An entry with a head more.
+fn noted(entry: Entry, head: Head, place: Place) -> Entry {
+    let coming = if entry.id == head.id {
+        Some(place)
+    } else if head.first {
+        None
+    } else {
+        entry.coming
+    };
+    Entry {
+        id: entry.id,
+        found: entry.found,
+        coming,
     }
 }
 
 /// All words of a change have come.
 fn come_in_force(entries: &mut [Entry]) {
     for entry in entries.iter_mut() {
-        if entry.open.is_some() {
-            entry.found = entry.open;
-        }
+        *entry = come(*entry);
+    }
+}
+
+/// An entry whose head has come.
+fn come(entry: Entry) -> Entry {
+    let found = match entry.coming {
+        Some(place) => Some(place),
+        None => entry.found,
+    };
+    Entry {
+        id: entry.id,
+        found,
+        coming: entry.coming,
     }
 }

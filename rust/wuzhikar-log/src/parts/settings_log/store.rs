@@ -6,7 +6,7 @@ use crate::parts::settings_log::moving::{advance, words_alive};
 use crate::parts::settings_log::operation::{head_in, put, tail, word_in};
 use crate::parts::settings_log::ring::{counting, newest, usable};
 use crate::parts::settings_log::scan::{Place, last_on};
-use crate::parts::settings_log::words::{Head, data_word, data_words, word_bytes};
+use crate::parts::settings_log::words::{Head, data_words, word_bytes};
 use crate::parts::flash_model::{NorFlash, PAGE_SLOTS};
 
 /// Why a change was not stored, or a value not read. All values are as before.
@@ -16,7 +16,7 @@ pub enum SettingsError {
     TooLong,
     /// Slot 0 of a page holds a word that is no header of its place: something else wrote there.
     Foreign,
-    /// Slot 0 of a page is not sound, a page that should count has lost its header, or the words of a value can't be read again.
+    /// Slot 0 of a page is not sound, a page that should count has lost its header, or a flash reads otherwise than before.
     Damaged,
     /// The changes find no page with room for them.
     Full,
@@ -39,7 +39,7 @@ pub fn length<F: NorFlash>(flash: &F, id: u16) -> Option<usize> {
 
 /// Reads the value of an id into the first of the bytes that are lent, and says how many they are; `None` where it has none.
 ///
-/// `TooLong` where it has more bytes than are lent, and `Damaged` where its words can't be read again.
+/// `TooLong` where it has more bytes than are lent.
 pub fn get<F: NorFlash>(flash: &F, id: u16, into: &mut [u8]) -> Result<Option<usize>, SettingsError> {
     let Some((place, head)) = value_place(flash, id) else {
         return Ok(None);
@@ -172,18 +172,32 @@ fn holds<F: NorFlash>(flash: &F, change: &Change<'_>) -> bool {
         None => held.is_none(),
         Some(bytes) => match held {
             Some((place, head)) => head.len as usize == bytes.len()
-                && has_bytes(flash, place, bytes),
+                && has_bytes(flash, place, head, bytes),
             None => false,
         },
     }
 }
 
 /// Whether the words behind a head are those of a value.
-fn has_bytes<F: NorFlash>(flash: &F, place: Place, bytes: &[u8]) -> bool {
-    for at in 0..data_words(bytes.len() as u16) as usize {
-        if word_in(flash, place.page as usize, place.slot as usize + 1 + at)
-            != Some(data_word(bytes, 3 * at))
-        {
+fn has_bytes<F: NorFlash>(flash: &F, place: Place, head: Head, bytes: &[u8]) -> bool {
+    let words = data_words(head.len) as usize;
+    for at in 0..words {
+        match word_in(flash, place.page as usize, place.slot as usize + 1 + at) {
+            Some(word) => {
+                if !has_three(bytes, 3 * at, word_bytes(word)) {
+                    return false;
+                }
+            }
+            None => return false,
+        }
+    }
+    true
+}
+
+/// Whether three bytes stand at a place, as far as there are so many.
+fn has_three(bytes: &[u8], at: usize, three: [u8; 3]) -> bool {
+    for k in 0..3 {
+        if at + k < bytes.len() && bytes[at + k] != three[k] {
             return false;
         }
     }

@@ -46,7 +46,8 @@ pub struct Head {
 pub enum Word {
     /// Three bytes of a value.
     Data,
-    Head(Head),
+    /// The words of an id begin.
+    Begins(Head),
     /// No word of a change.
     Other,
 }
@@ -67,11 +68,11 @@ pub fn header(number: u32) -> u32 {
 
 /// What a word is to a change.
 pub fn word_kind(word: u32) -> Word {
-    if word < DATA {
+    if word / DATA == 0 {
         return Word::Data;
     }
     match head_of_word(word) {
-        Some(head) => Word::Head(head),
+        Some(head) => Word::Begins(head),
         None => Word::Other,
     }
 }
@@ -80,16 +81,17 @@ pub fn word_kind(word: u32) -> Word {
 pub fn head_of_word(word: u32) -> Option<Head> {
     let len = (word / BYTE_MORE % 2048) as u16;
     let removal = word / REMOVAL % 2 == 1;
-    if word / HEAD != 1 || usize::from(len) > MAX_BYTES || (removal && len > 0) {
-        return None;
+    if word / HEAD == 1 && len <= 1024 && (!removal || len == 0) {
+        Some(Head {
+            id: (word % BYTE_MORE) as u16,
+            len,
+            removal,
+            first: word / FIRST % 2 == 1,
+            last: word / LAST % 2 == 1,
+        })
+    } else {
+        None
     }
-    Some(Head {
-        id: (word % BYTE_MORE) as u16,
-        len,
-        removal,
-        first: word / FIRST % 2 == 1,
-        last: word / LAST % 2 == 1,
-    })
 }
 
 /// The word of a head.
