@@ -4,6 +4,7 @@ use Rattle.std.specs.Prelude.{All, Option, min, unwrap_or, slice_get, slice_inde
 use Rattle.std.proofs.lemmas.Bool.{ne_eqb, lt-ltb}
 use Rattle.std.proofs.lemmas.Option.{slice_get_past, slice_get-get_or}
 use Rattle.std.proofs.lemmas.List.{take-append-drop, take-append-le, take_all, take_more, map-append}
+use Rattle.std.proofs.Math.Seq.{drop-append_seam}
 use Rattle.descriptor_parse.specs.declared.field.Field.{Field}
 use Rattle.descriptor_parse.specs.declared.locals.UsageRange.{UsageRange}
 use Rattle.descriptor_parse.specs.Descriptor.{count_up, usage_list, usage_of_place}
@@ -123,13 +124,8 @@ last_more n (first ∷ ranges) range = last_more (count_with n first) ranges ran
 
 -- ---- one part more
 
-drop_front : (xs ys : List ℕ) (n : ℕ) → n ≡ length xs → drop n (xs ++ ys) ≡ ys
-drop_front [] ys n e = rw e refl
-drop_front (x ∷ xs) ys n e = rw e (drop_front xs ys (length xs) refl)
-
-drop_pairs : (xs ys : List (ℕ × ℕ)) → drop (length xs) (xs ++ ys) ≡ ys
-drop_pairs [] ys = refl
-drop_pairs (x ∷ xs) ys = drop_pairs xs ys
+pub drop_front : (xs ys : List ℕ) (n : ℕ) → n ≡ length xs → drop n (xs ++ ys) ≡ ys
+drop_front xs ys n e = rw e (drop-append_seam xs ys)
 
 pub counts_more : (start : ℕ) (ends : List ℕ) (ranges more : List (ℕ × ℕ)) (counts : List ℕ) → AreEnds start ends (length ranges) → length counts ≡ length ranges
     → AreWrapped start ends ranges counts
@@ -139,7 +135,7 @@ counts_more start [] ranges more counts e l w =
     let rs : take total (ranges ++ more) ≡ ranges ++ more = take_all total (ranges ++ more) (omega (arith, length-append ranges more)) in
     let cs : take total (counts ++ wrapped_counts 0 more) ≡ counts ++ wrapped_counts 0 more =
     take_all total (counts ++ wrapped_counts 0 more) (omega (arith, length-append counts (wrapped_counts 0 more), wrapped_len 0 more)) in
-    (rw (rs, cs) (drop_front counts (wrapped_counts 0 more) start (e ∙ sym l) ∙ sym (ap (wrapped_counts 0) (rw e (drop_pairs ranges more)))), tt)
+    (rw (rs, cs) (drop_front counts (wrapped_counts 0 more) start (e ∙ sym l) ∙ sym (ap (wrapped_counts 0) (rw e (drop-append_seam ranges more)))), tt)
 counts_more start (end ∷ ends) ranges more counts e l w =
     let within : end ≤ length ranges = ends_within end ends (length ranges) e.1 in
     let rs : take end (ranges ++ more) ≡ take end ranges = take-append-le end ranges more within in

@@ -2,13 +2,10 @@ use Rattle.std.proofs.Common.{◌≡◌, ℕ, zero, suc, ◌+◌, ◌-◌, ◌<�
 use Rattle.std.proofs.lemmas.List.{take-append-drop}
 use Rattle.std.specs.Prelude.{slice_index}
 use Rattle.std.proofs.lemmas.Bool.{cases_eq, cases_lt, ne_eqb}
+use Rattle.std.proofs.Math.Seq.{drop-append_seam}
 use Rattle.descriptor_parse.specs.Items.{ItemValue, items_at, data_size, head_size, item_size, front_item}
 use Rattle.descriptor_parse.specs.Cut.{IsShortItem, IsLongItem, IsWritten, IsCut, HasNoItem, cut_off_at}
 use Rattle.descriptor_parse.proofs.ItemLemmas.{size_pos, items_end, items_short, items_more}
-
-drop_front : (xs ys : List ℕ) → drop (length xs) (xs ++ ys) ≡ ys
-drop_front [] ys = refl
-drop_front (x ∷ xs) ys = drop_front xs ys
 
 take_front : (xs ys : List ℕ) → take (length xs) (xs ++ ys) ≡ xs
 take_front [] ys = refl
@@ -100,7 +97,7 @@ one_cut (item ∷ items) offset end text rest (head, more, w, o, t, later) n =
     let len : length (head ++ more) ≡ length head + length more = length-append head more in
     let front : front_item offset (head ++ more) ≡ item = written_front offset item head more w o in
     rw t (items_more offset (head ++ more) (omega arith) (omega arith)
-    ∙ (rw (front, size, drop_front head more) (ap (λ results. Ok item ∷ results) (one_cut items (offset + length head) end more rest later n))))
+    ∙ (rw (front, size, drop-append_seam head more) (ap (λ results. Ok item ∷ results) (one_cut items (offset + length head) end more rest later n))))
 
 written_some : (item : ItemValue) (head : List ℕ) → IsWritten item head → 0 < length head
 written_some item head w =

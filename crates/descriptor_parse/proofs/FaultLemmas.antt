@@ -286,7 +286,7 @@ at_end_long text other at h1 h2 = grind (arith, common_steps)
 at_end_open : (text : List ℕ) (other : ParseFault) (at : ℕ) → length text ≤ 4096 → IsFaultAtEnd text other at → (length text < at) ⊎ ((length text ≡ at) × (15 ≤ number_of other))
 at_end_open text other at h1 h2 = grind (arith, common_steps)
 
-no_end : (text : List ℕ) (other : ParseFault) (at : ℕ) → length text ≤ 4096 → open_collections (all_items text) ≡ 0 → IsFaultAtEnd text other at → ⊥
+pub no_end : (text : List ℕ) (other : ParseFault) (at : ℕ) → length text ≤ 4096 → open_collections (all_items text) ≡ 0 → IsFaultAtEnd text other at → ⊥
 no_end text other at h1 h2 h3 = grind (arith, common_steps)
 
 -- a text that is too long, an item of which has no fault and reaches past the greatest length

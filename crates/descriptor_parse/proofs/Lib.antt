@@ -19,5 +19,5 @@ mod SoundLemmas
 pub mod WellLemmas
 pub mod WalkLemmas
 pub mod LinkLemmas
-mod ReaderLemmas
+pub mod ReaderLemmas
 mod BesideLemmas

@@ -5,11 +5,8 @@ use Rattle.std.proofs.lemmas.Bool.{ne_eqb}
 use Rattle.std.proofs.lemmas.Grind.{get_or_default_zero}
 use Rattle.std.proofs.lemmas.Option.{slice_get-get_or, slice_get_past}
 use Rattle.std.proofs.lemmas.List.{take-append-le, take_all}
+use Rattle.std.proofs.Math.Seq.{drop-append_seam}
 use Rattle.descriptor_parse.specs.representation.Parts.{parts_from, AreEnds}
-
-drop_front : (xs ys : List (ℕ × ℕ)) → drop (length xs) (xs ++ ys) ≡ ys
-drop_front [] ys = refl
-drop_front (x ∷ xs) ys = drop_front xs ys
 
 pub ends_within : (start : ℕ) (ends : List ℕ) (len : ℕ) → AreEnds start ends len → start ≤ len
 ends_within start [] len e = omega arith
@@ -27,7 +24,7 @@ pub parts_more : (start : ℕ) (ends : List ℕ) (ranges more : List (ℕ × ℕ
 unfolding parts_from
 parts_more start [] ranges more e =
     let all : take (length ranges + length more) (ranges ++ more) ≡ ranges ++ more = all_taken (ranges ++ more) (length ranges + length more) (sym (length-append ranges more)) in
-    rw (all, e) (ap (λ (xs : List (ℕ × ℕ)). xs ∷ []) (drop_front ranges more))
+    rw (all, e) (ap (λ (xs : List (ℕ × ℕ)). xs ∷ []) (drop-append_seam ranges more))
 parts_more start (end ∷ ends) ranges more e =
     let within : end ≤ length ranges = ends_within end ends (length ranges) e.1 in
     let front : take end (ranges ++ more) ≡ take end ranges = take-append-le end ranges more within in

@@ -52,7 +52,7 @@ skip_to kind id place (field ∷ fields) (part ∷ ranges) all e l s = elim (cas
 zip_length : (fields : List Field) (ranges : List (List (ℕ × ℕ))) → length ranges ≡ length fields → length (zip fields ranges) ≡ length fields
 zip_length fields ranges e = let both : length (zip fields ranges) ≡ min (length fields) (length ranges) = length-zip fields ranges in omega arith
 
-kinds_equal : (a b : Kind) → same_kind a b ≡ true → a ≡ b
+pub kinds_equal : (a b : Kind) → same_kind a b ≡ true → a ≡ b
 kinds_equal a b h1 = grind (arith, common_steps)
 
 parts_many : (links : List Link) (fields : List Field) (ranges : List (ℕ × ℕ)) → length links ≡ length fields → length (parts (ends_of links) ranges) ≡ length fields

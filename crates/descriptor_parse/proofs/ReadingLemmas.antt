@@ -2,7 +2,6 @@
 use Rattle.std.proofs.lemmas.Grind.{common_steps}
 use Rattle.std.proofs.Common.{◌≡◌, ℕ, ◌+◌, ◌*◌, ◌-◌, map, get_or, ◌<◌, ◌≤◌, List, [], ◌∷◌, ◌++◌, length, drop, refl, arith, sym, ◌∙◌, ap, subst, Bool, true, None, Some, inl, inr, length-append, length-drop, append_assoc}
 use Rattle.std.specs.Prelude.{slice_index, ◌==◌, IsTrue, Option, Result, Ok, Err}
-use Rattle.std.proofs.Math.Seq.{drop-append_seam}
 use Rattle.std.proofs.Math.ListN.{get_or-eq_default}
 use Rattle.std.proofs.lemmas.List.{length-map}
 use Rattle.std.proofs.lemmas.List.Elements.{All-weaker}
@@ -30,7 +29,7 @@ use Rattle.descriptor_parse.specs.representation.Parse.{HasReached}
 use Rattle.descriptor_parse.specs.Fed.{RefusesAll}
 use Rattle.descriptor_parse.specs.representation.Fed.{AreBytes, IsAt, IsFront, IsReading, WasFed}
 use Rattle.descriptor_parse.proofs.PartLemmas.{length_parts}
-use Rattle.descriptor_parse.proofs.CountLemmas.{exact_from}
+use Rattle.descriptor_parse.proofs.CountLemmas.{exact_from, drop_front}
 use Rattle.descriptor_parse.proofs.WellLemmas.{well_formed}
 use Rattle.descriptor_parse.proofs.OneFault.{one_first}
 use Rattle.descriptor_parse.proofs.ItemLemmas.{size_pos, items_none, items_short}
@@ -286,9 +285,6 @@ at_fresh text part piece offset state none a = rw none at (at_more text part pie
 pub exact_size : (filled rest : List ℕ) (n : ℕ) → n ≡ length filled → item_size filled ≤ length filled → length filled ≤ item_size filled → n ≡ item_size (filled ++ rest)
 exact_size filled rest n e whole most = let size : item_size (filled ++ rest) ≡ item_size filled = same_size filled rest whole in omega arith
 
-pub drop_filled : (filled rest : List ℕ) (n : ℕ) → n ≡ length filled → drop n (filled ++ rest) ≡ rest
-drop_filled filled rest n e = rw e (drop-append_seam filled rest)
-
 -- an item that was filled up stands at the front, and what is left of the piece follows
 pub record IsFilled (text front rest : List ℕ) (offset len : ℕ) (item : ItemValue) (state : State) : Type 0 where
   pub at : IsAt text (front ++ rest) offset state
@@ -308,7 +304,7 @@ filled_up text part piece kept front rest offset len item state e moved most l w
       at = at_filled text part piece front rest offset state moved' a;
       first = front_more item front rest offset (record { whole = whole; is = is });
       size = exact_size front rest len l' whole most';
-      after = drop_filled front rest len l';
+      after = drop_front front rest len l';
     }
 
 -- ---- what was fed

@@ -54,7 +54,7 @@ is_neutral _ = true
 no_data : (t : Tag) → is_neutral t ≡ true → is_data t ≡ false
 no_data t h1 = grind (arith, common_steps)
 
-no_data_of : (kind : Kind) (t : Tag) → is_data t ≡ false → is_data_of kind t ≡ false
+pub no_data_of : (kind : Kind) (t : Tag) → is_data t ≡ false → is_data_of kind t ≡ false
 no_data_of kind t h1 = grind (arith, common_steps)
 
 no_id : (t : Tag) → is_neutral t ≡ true → is_report_id t ≡ false

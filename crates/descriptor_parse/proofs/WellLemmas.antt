@@ -2,9 +2,10 @@
 use Rattle.std.proofs.lemmas.Grind.{common_steps}
 use Rattle.std.proofs.Common.{◌≡◌, ℕ, ◌+◌, ◌*◌, ◌/◌, ◌^◌, ◌<◌, ◌≤◌, List, [], ◌∷◌, length, get_or, refl, arith, sym, ◌∙◌, ap, Bool, true, false, cond, Some, inl, inr, length-append, ◌⊎◌}
 use Rattle.std.specs.Prelude.{Option, ◌==◌, ◌&&◌, ◌||◌, not, nat_lt, nat_le, All, pos, neg_ℤ, ◌≤ℤ◌, ◌<ℤ◌}
-use Rattle.std.proofs.lemmas.Bool.{cases_Bool, cases_eq, and_parts, or_parts, ltb-true, ltb-false, leb-false, eq-eqb, eqb-true}
+use Rattle.std.proofs.lemmas.Bool.{cases_Bool, cases_eq, and_parts, or_parts, ltb-true, ltb-false, leb-false, eq-eqb, eqb-true, not-true, not-false}
 use Rattle.std.proofs.lemmas.Nat.{mul-le}
 use Rattle.std.proofs.lemmas.List.Elements.{All-nil, All-cons, All-append, All-push, All-same, All-weaker}
+use Rattle.std.proofs.Math.Bool.{or-true}
 use Rattle.descriptor_parse.specs.declared.fault.ParseFault.{ParseFault}
 use Rattle.descriptor_parse.specs.declared.fault.ParseFault.TheVariants.{SizeTooLarge, CountTooLarge, UnpairedUsage, UsageInverted, TooManyFields, MixedIds}
 use Rattle.descriptor_parse.specs.declared.field.Kind.{Kind}
@@ -52,9 +53,6 @@ unfolding has_bare_data
 bare_stays item before b =
     elim (cases_Bool (is_data (tag item) && report_id before == 0)) [ inl e ↦ rw e refl | inr e ↦ rw e b ]
 
-or_true : (a : Bool) → (a || true) ≡ true
-or_true a = grind (arith, common_steps)
-
 fits_on : (item : ItemValue) (before : List ItemValue) (field : Field) → Fits before field → Fits (item ∷ before) field
 fits_on item before field f =
     let grow : report_bits field.kind field.id before ≤ report_bits field.kind field.id (item ∷ before) = bits_grow field.kind field.id item before in
@@ -69,7 +67,7 @@ fits_on item before field f =
       max_from = f.max_from;
       max_to = f.max_to;
       bare = λ e. bare_stays item before (f.bare e);
-      used = λ n. (let u : has_report_id before ≡ true = f.used n in rw u (or_true (is_report_id (tag item))));
+      used = λ n. (let u : has_report_id before ≡ true = f.used n in rw u (or-true (is_report_id (tag item))));
     }
 
 data_kind : (t : Tag) → is_data t ≡ true → t ≡ Main (Data (kind_of t))
@@ -97,16 +95,13 @@ record IsNew (before : List ItemValue) (item : ItemValue) : Type 0 where
   few : length (fields before) < 256
   alone : report_id before ≡ 0 → has_report_id before ≡ false
 
-not_false : (b : Bool) → not b ≡ true → b ≡ false
-not_false b h1 = grind (arith, common_steps)
-
 new_field : (before : List ItemValue) (item : ItemValue) → IsSound before item → is_field before item ≡ true → IsNew before item
 unfolding shows
 new_field before item s e =
     let first = and_parts (is_data (tag item)) _ e in
     let second = and_parts (not (is_constant item)) _ first.1 in
     let third = and_parts (nat_lt 0 (report_size before)) _ second.1 in
-    let plain : is_constant item ≡ false = not_false _ second.0 in
+    let plain : is_constant item ≡ false = not-true _ second.0 in
     let size : nat_lt (cond (is_constant item) 1024 32) (report_size before) ≡ false = true_and _ _ first.0 (not_shown before item s SizeTooLarge) in
     let size' : nat_lt 32 (report_size before) ≡ false = (rw plain at size) in
     let count : nat_lt 1024 (report_count before) ≡ false = true_and _ _ first.0 (not_shown before item s CountTooLarge) in
@@ -143,7 +138,7 @@ fits_new before item sound n =
       max_to = ends.1.1;
       bare = λ z. rw (n.is_it, eq-eqb _ _ z) refl;
       used = λ some. (elim (cases_Bool (has_report_id before)) [
-        | inl e ↦ rw e (or_true (is_report_id (tag item)))
+        | inl e ↦ rw e (or-true (is_report_id (tag item)))
         | inr e ↦ absurd (some (no_id before e))
       ]);
     }
@@ -157,9 +152,6 @@ none_yet half e = cc
 no_usages : (page : ℕ) → usages_since_main page [] ≡ []
 unfolding usages_since_main
 no_usages page = refl
-
-not_true : (b : Bool) → not b ≡ false → b ≡ true
-not_true b h1 = grind (arith, common_steps)
 
 -- a half of a pair that waits is the latest item, or waited before
 waits : (t : Tag) (item : ItemValue) (half : Option ItemValue) (found : ItemValue) → still_unpaired t item half ≡ Some found
@@ -209,9 +201,9 @@ range_sound : (page : ℕ) (t : Tag) (item : ItemValue) (half : Option ItemValue
     → All IsRange (range_made page t item half)
 range_sound page (Local local.Usage) item half l d h m o = All-cons IsRange _ [] (one_range page item.bytes l d) (All-nil IsRange)
 range_sound page (Local local.UsageMinimum) item (Some max) l d h m o =
-    All-cons IsRange _ [] (pair_range page item.bytes max.bytes _ _ refl refl l d (h max refl) (not_true _ (or_parts _ _ m).1) (ltb-false _ _ o)) (All-nil IsRange)
+    All-cons IsRange _ [] (pair_range page item.bytes max.bytes _ _ refl refl l d (h max refl) (not-false _ (or_parts _ _ m).1) (ltb-false _ _ o)) (All-nil IsRange)
 range_sound page (Local local.UsageMaximum) item (Some min) l d h m o =
-    All-cons IsRange _ [] (pair_range page min.bytes item.bytes _ _ refl refl l (h min refl) d (not_true _ (or_parts _ _ m).1) (ltb-false _ _ o)) (All-nil IsRange)
+    All-cons IsRange _ [] (pair_range page min.bytes item.bytes _ _ refl refl l (h min refl) d (not-false _ (or_parts _ _ m).1) (ltb-false _ _ o)) (All-nil IsRange)
 range_sound page _ item half l d h m o = All-nil IsRange
 
 made_sound : (page : ℕ) (t : Tag) (item : ItemValue) (half : Option ItemValue) (earlier : List (ℕ × ℕ)) → All IsRange earlier
