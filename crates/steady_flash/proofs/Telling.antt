@@ -6,6 +6,7 @@ use Rattle.steady_flash.specs.Marked.{Size, Same, IsMarkReading}
 use Rattle.steady_flash.specs.Layout.{held_at, IsPlaced}
 use Rattle.steady_flash.specs.Claims.{IsClaim, IsFirm, IsClaimed, IsTaken, IsOpenTold, IsSettledPage, IsSameOpen}
 use Rattle.steady_flash.specs.Shown.{IsSettled}
+use Rattle.steady_flash.specs.Sound.{Standing, IsSound, IsCandidate}
 use Rattle.steady_flash.specs.Told.{MayRead, IsFoundTold, IsReadTo, MayBeFound}
 use Rattle.steady_flash.specs.declared.layout.Held.{Held}
 use Rattle.steady_flash.specs.declared.layout.Layout.{Layout}
@@ -95,3 +96,20 @@ claimed_told size marks slots before c told at index page number b t l k =
     let same : number ≡ (held_at before.held page).number = omega arith in
     let here = counts.alone at index b t (rw same at it) in
     rw (here.0) (told page l)
+
+-- and so behind power losses
+pub sound_told : (size : Size) (marks slots : ℕ → ℕ → Written) (s : Standing) → IsSound size marks s → ((p at : ℕ) → p < s.layout.pages → IsCandidate s p at → IsOpenTold marks slots at) → IsFoundTold size marks slots s.layout.pages
+sound_told size marks slots s c told at index page number b t l k =
+    let held = held_at s.layout.held page in
+    let claim = (c.held page l).claim in
+    let least : held.number ≤ number = k.least held.page held.index held.number (omega (arith, c.laid_out.placed.page page l, c.laid_out.placed.served.count)) (c.laid_out.placed.index page l) (record { bytes = claim.bytes; claims = claim.claims; least = claim.marked.least; most = claim.marked.most }) in
+    elim (c.begun page at index number l b t (begun marks s.layout.pages at index page number k.read.bytes k.read.reads k.read.claims)) [
+      | inl lower ↦ absurd (omega arith)
+      | inr r ↦ elim r [
+        | inl it ↦ told page at l (inl it.0)
+        | inr above ↦ elim above.1 [
+          | inl it ↦ told page at l (inl it.0)
+          | inr it ↦ told page at l (inr (it.0, it.1))
+        ]
+      ]
+    ]

@@ -106,6 +106,7 @@ impl<F: MarkedFlash + Drop> SteadyFlash<F> {
         ensures complete { F.is_healthy flash → (before : Layout) → IsClaimed (F.size flash) (F.marks flash) before → IsOurs (F.size flash) (F.marks flash) before.pages → ((p : ℕ) → p < before.pages → HasRoom (F.size flash).triples (held_at before.held p)) → IsOk result }
         ensures settled { (before : Layout) → IsClaimed (F.size flash) (F.marks flash) before → ((p : ℕ) → p < before.pages → IsOpenTold (F.marks flash) (F.slots flash) (held_at before.held p).page)
             → IfOk result (λ steady. IsSettled (F.slots steady.flash) steady.layout × IsReadImage (F.slots flash) before (image_of (F.slots steady.flash) steady.layout)) }
+        ensures fresh { IfOk result (λ steady. (steady.is_lost ≡ false) × (steady.in_doubt ≡ None) × (steady.operations ≡ 0) × (steady.faults ≡ 0)) }
         ensures healthy { F.is_healthy flash → MatchResult result (λ steady. F.is_healthy steady.flash × (steady.is_lost ≡ false)) (λ unmounted. F.is_healthy unmounted.flash × IsRefusal unmounted.why) }
         // healthy or not, and whatever power losses left of marks: a start that ended early shows no more than the cells did
         ensures sound { (before : Standing) → IsSound (F.size flash) (F.marks flash) before → MatchResult result
@@ -129,6 +130,7 @@ impl<F: MarkedFlash + Drop> SteadyFlash<F> {
     /// [another geometry](MountError::OtherGeometry), is refused as it is.
     pub fn take_over(flash: F) -> Result<SteadyFlash<F>, Unmounted<F>>
         requires told { IsFoundTold (F.size flash) (F.marks flash) (F.slots flash) ((F.size flash).pages - 1) }
+        ensures fresh { IfOk result (λ steady. (steady.is_lost ≡ false) × (steady.in_doubt ≡ None) × (steady.operations ≡ 0) × (steady.faults ≡ 0)) }
         ensures healthy { F.is_healthy flash → MatchResult result (λ steady. F.is_healthy steady.flash × (steady.is_lost ≡ false)) (λ unmounted. F.is_healthy unmounted.flash × IsRefusal unmounted.why) }
     {
         let mut flash = flash;
@@ -146,6 +148,7 @@ impl<F: MarkedFlash + Drop> SteadyFlash<F> {
     ///
     /// `Unmounted` with the flash and the reason: `PageCount`, `Triples`, `Unreadable`, `Worn` or `Fault`.
     pub fn format(flash: F) -> Result<SteadyFlash<F>, Unmounted<F>>
+        ensures fresh { IfOk result (λ steady. (steady.is_lost ≡ false) × (steady.in_doubt ≡ None) × (steady.operations ≡ 0) × (steady.faults ≡ 0)) }
         ensures healthy { F.is_healthy flash → MatchResult result (λ steady. F.is_healthy steady.flash × (steady.is_lost ≡ false)) (λ unmounted. F.is_healthy unmounted.flash × IsRefusal unmounted.why) }
     {
         let mut flash = flash;
@@ -156,7 +159,7 @@ impl<F: MarkedFlash + Drop> SteadyFlash<F> {
     fn of(flash: F, started: Result<Layout, MountError>) -> Result<SteadyFlash<F>, Unmounted<F>>
         requires { IfOk started (λ layout. IsLaidOut (F.size flash) layout × IsSettled (F.slots flash) layout) }
         ensures same { MatchResult result (λ steady. (steady.flash ≡ flash) × (steady.is_lost ≡ false) × (started ≡ Ok steady.layout)) (λ unmounted. (unmounted.flash ≡ flash) × (started ≡ Err unmounted.why)) }
-        ensures sound { IfOk result (λ steady. (steady.in_doubt ≡ None) × (steady.operations ≡ 0) × (steady.faults ≡ 0)) }
+        ensures fresh { IfOk result (λ steady. (steady.is_lost ≡ false) × (steady.in_doubt ≡ None) × (steady.operations ≡ 0) × (steady.faults ≡ 0)) }
     {
         match started {
             Ok(layout) => Ok(SteadyFlash {

@@ -10,7 +10,7 @@ ghost use Rattle.steady_flash.specs.Cells.{IsEight, Written, IsReading, MayBePro
 ghost use Rattle.steady_flash.specs.Marked.{Size, OnePlace};
 ghost use Rattle.steady_flash.specs.Layout.{held_at, IsLaidOut};
 ghost use Rattle.steady_flash.specs.Shown.{shown, image_of, IsSettled, IsReadImage};
-ghost use Rattle.steady_flash.specs.Sound.{Standing, IsCalm, IsTold, MayShow, Shrinks, IsStarted, steady_at};
+ghost use Rattle.steady_flash.specs.Sound.{Standing, IsSound, IsCalm, IsTold, MayShow, Shrinks, IsStarted, steady_at};
 ghost use Rattle.steady_flash.specs.Claims.{IsOpenTold, IsClaimed};
 ghost use Rattle.steady_flash.specs.Told.{IsFoundTold};
 ghost use Rattle.steady_flash.specs.declared.layout.Layout.{Layout};
@@ -33,6 +33,11 @@ pub fn a_torn_program_is_told()
 /// With no cell in doubt there is one image to read.
 pub fn a_settled_flash_reads_as_shown()
     ensures { (slots : ℕ → ℕ → Written) (layout : Layout) (image : Bytes) → IsSettled slots layout → IsReadImage slots layout image → image ≡ image_of slots layout }
+{}
+
+/// So it may behind power losses.
+pub fn a_sound_flash_may_be_mounted()
+    ensures { (size : Size) (marks slots : ℕ → ℕ → Written) (standing : Standing) → IsSound size marks standing → IsTold marks slots standing → IsFoundTold size marks slots standing.layout.pages }
 {}
 
 /// Where claims count, and each page says whether it may have a cell in doubt, a flash may be mounted.
