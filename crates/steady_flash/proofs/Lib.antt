@@ -17,3 +17,4 @@ pub mod Adopting
 pub mod Switching
 pub mod Bumping
 pub mod Shrinking
+pub mod Calm

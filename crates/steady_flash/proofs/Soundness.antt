@@ -230,7 +230,16 @@ sound_about size marks marks' s page held b t f others torn less c =
     ])
     c
 
--- the mark behind a whole claim
+-- the mark of an open page, and the one behind a whole claim
+pub sound_open : (size : Size) (marks marks' : ℕ → ℕ → Written) (s : Standing) (page : ℕ) → page < s.layout.pages → OnePlace marks (held_at s.layout.held page).page 0 marks' → IsSound size marks s → IsSound size marks' s
+sound_open size marks marks' s page b others c =
+    let now = held_at s.layout.held page in
+    sound_beside size marks marks' s (λ q j d e. no_claim_there marks marks' now.page 0 q j others (λ g. omega (arith, g)))
+    (held_each size marks marks' s page 0 b c others (held_beside size marks marks' s.layout.pages page now.page 0 now others (c.laid_out.placed.index page b) (λ e. (omega arith, λ f. omega (arith, f))) (c.held page b)))
+    (λ p d. about_as marks marks' (held_at s.layout.held p) (others _ _ (λ e f. omega (arith, f))))
+    (λ d. spare_still size marks marks' s now.page 0 (λ e. c.laid_out.free page b e) c others d)
+    c
+
 pub sound_done : (size : Size) (marks marks' : ℕ → ℕ → Written) (s : Standing) (page : ℕ) → page < s.layout.pages → OnePlace marks (held_at s.layout.held page).page (2 + 3 * (held_at s.layout.held page).index) marks' → IsSound size marks s → IsSound size marks' s
 sound_done size marks marks' s page b others c =
     let now = held_at s.layout.held page in

@@ -18,7 +18,7 @@ use Rattle.steady_flash.proofs.Cells.{torn_erased}
 use Rattle.steady_flash.proofs.Words.{no_blank}
 use Rattle.steady_flash.proofs.Claiming.{begun_before}
 use Rattle.steady_flash.proofs.Layouts.{at_set, laid_moved}
-use Rattle.steady_flash.proofs.Soundness.{about_as, allowed_about, begun_which, held_now, held_still, no_claim_there, pending_erased, sound_about, sound_again, sound_done, torn_as}
+use Rattle.steady_flash.proofs.Soundness.{about_as, allowed_about, begun_which, held_now, held_still, no_claim_there, pending_erased, sound_about, sound_again, sound_done, sound_open, torn_as}
 use Rattle.steady_flash.proofs.Adopting.{AllowedBy, allowed_as, allowed_beside}
 
 -- a session
@@ -66,6 +66,10 @@ calm_about size marks marks' layout page b others torn less c =
 pub calm_done : (size : Size) (marks marks' : ℕ → ℕ → Written) (layout : Layout) (page : ℕ) → page < layout.pages → OnePlace marks (held_at layout.held page).page (2 + 3 * (held_at layout.held page).index) marks' → IsCalm size marks layout → IsCalm size marks' layout
 calm_done size marks marks' layout page b others c =
     calm_beside size marks marks' layout (λ q j. no_claim_there marks marks' _ _ q j others (λ g. omega (arith, g))) (sound_done size marks marks' (steady_at layout) page b others c.sound) c
+
+pub calm_open : (size : Size) (marks marks' : ℕ → ℕ → Written) (layout : Layout) (page : ℕ) → page < layout.pages → OnePlace marks (held_at layout.held page).page 0 marks' → IsCalm size marks layout → IsCalm size marks' layout
+calm_open size marks marks' layout page b others c =
+    calm_beside size marks marks' layout (λ q j. no_claim_there marks marks' _ _ q j others (λ g. omega (arith, g))) (sound_open size marks marks' (steady_at layout) page b others c.sound) c
 
 -- before the claim of the spare page
 sound_moving : (size : Size) (marks : ℕ → ℕ → Written) (layout : Layout) (page : ℕ) → IsErasedMarks marks size.triples layout.spare → IsCalm size marks layout → IsSound size marks (moving_at layout page)

@@ -1,6 +1,6 @@
 -- Trusted: what the marks hold at each moment, also behind a power loss in any operation.
 use Rattle.shapes.specs.Shapes.{Bytes}
-use Rattle.std.specs.Prelude.{◌≡◌, ℕ, ◌+◌, ◌*◌, ◌<◌, ◌≤◌, ◌⊎◌, replicate, []}
+use Rattle.std.specs.Prelude.{◌≡◌, ℕ, ◌+◌, ◌*◌, ◌<◌, ◌≤◌, ◌⊎◌, replicate, [], Bool, true, false}
 use Rattle.flash_model.specs.Torn.{Within}
 use Rattle.flash_model.specs.declared.TheConstants.{PAGE_SLOTS}
 use Rattle.steady_flash.specs.Cells.{Written, IsReading, blank, erased}
@@ -11,6 +11,8 @@ use Rattle.steady_flash.specs.Shown.{IsSettled}
 use Rattle.steady_flash.specs.Claims.{IsClaim, IsBegun, IsMarked, IsOpenTold}
 use Rattle.steady_flash.specs.declared.layout.Held.{Held}
 use Rattle.steady_flash.specs.declared.layout.Layout.{Layout}
+use Rattle.steady_flash.specs.declared.writing.Failed as Faileds
+use Rattle.steady_flash.specs.declared.writing.Failed.{Failed}
 use Rattle.steady_flash.specs.declared.moving.Stop as Stops
 use Rattle.steady_flash.specs.declared.moving.Stop.{Stop}
 
@@ -139,6 +141,16 @@ IsBumped size old before page new held = (after : Standing) × Follows size old 
 abbrev pub IsStopped : Size → (ℕ → ℕ → Written) → Layout → ℕ → Stop → Type 0
 IsStopped size marks layout page Stops.TheVariants.InDoubt = IsSound size marks (moving_at layout page)
 IsStopped size marks layout page _ = IsCalm size marks layout
+
+-- a program of the log's flash that failed: the marks are calm, or the flash was given up
+abbrev pub IsEnded : Size → (ℕ → ℕ → Written) → Layout → Failed → Type 0
+IsEnded size marks layout Faileds.TheVariants.Torn = IsCalm size marks layout
+IsEnded size marks layout _ = (after : Standing) × IsSound size marks after
+
+-- a session: until the flash is given up its marks are calm between operations, and from then on they stay sound
+abbrev pub IsSteady : Size → (ℕ → ℕ → Written) → Layout → Bool → Type 0
+IsSteady size marks layout true = (after : Standing) × IsSound size marks after
+IsSteady size marks layout false = IsCalm size marks layout
 
 -- a mark behind an erase, whole or torn: no word was begun that was not before
 abbrev pub IsNoNewer : Written → Written → Type 0

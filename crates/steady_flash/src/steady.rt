@@ -5,7 +5,7 @@ ghost use Rattle.steady_flash.specs.Healthy.{IsRefusal};
 ghost use Rattle.flash_model.specs.Operations.{Programs, MayProgram, Erases, MayErase};
 ghost use Rattle.steady_flash.specs.Layout.{held_at, IsLaidOut, LastsFor};
 ghost use Rattle.steady_flash.specs.Shown.{image_of, image_as, read_as, IsSettled, IsSettledBeside, IsReadImage};
-ghost use Rattle.steady_flash.specs.Sound.{Standing, IsSound, IsStarted, IsShrunk};
+ghost use Rattle.steady_flash.specs.Sound.{Standing, IsSound, IsSteady, IsStarted, IsShrunk};
 ghost use Rattle.steady_flash.specs.Claims.{IsClaimed, IsNoGreater, IsOpenTold, IsOurs, HasRoom};
 ghost use Rattle.steady_flash.specs.Told.{IsFoundTold};
 
@@ -32,8 +32,9 @@ pub const NO_SLOT: [u8; SLOT_BYTES] = [255, 255, 255, 127, 255, 255, 255, 255];
 /// begun is firm. On a healthy flash a start, a program and an erase succeed, until marks or numbers end.
 ///
 /// A power loss is a flash whose operations all fail from then on, the first of them torn. Of a start that is cut it is proved that
-/// the cells show no more than before it, and that one completed behind it shows what was there. What a session leaves of the marks
-/// when it is cut is **tested, not proved**, under these premises:
+/// the cells show no more than before it, and that one completed behind it shows what was there. A session that is cut leaves sound
+/// marks: each page is found where it was, or on the spare page. What its slots read as then is **tested, not proved**, under these
+/// premises:
 ///
 /// - The flash does what [`MarkedFlash`] asks, and nothing else writes there, a plain log neither.
 /// - The power is not lost inside as many starts in a row as half the triples of a page: at least 4, mostly 12. A start that ends
@@ -218,6 +219,7 @@ impl<F: MarkedFlash + Drop> SteadyFlash<F> {
         ensures same_counts { (self.new.operations ≡ self.old.operations) × (self.new.faults ≡ self.old.faults) }
         ensures numbers { IsNoGreater self.old.layout self.new.layout }
         ensures healthy { F.is_healthy self.old.flash → self.old.is_lost ≡ false → self.old.in_doubt ≡ None → page < self.old.layout.pages → slot < PAGE_SLOTS → (held_at self.old.layout.held page).number ≤ LAST_WRITTEN → IsOk result × F.is_healthy self.new.flash × (self.new.is_lost ≡ false) × (self.new.in_doubt ≡ None) }
+        ensures steady { IsSteady (F.size self.old.flash) (F.marks self.old.flash) self.old.layout self.old.is_lost → IsSteady (F.size self.new.flash) (F.marks self.new.flash) self.new.layout self.new.is_lost }
         ensures claimed { IsClaimed (F.size self.old.flash) (F.marks self.old.flash) self.old.layout → IfOk result (λ _. IsClaimed (F.size self.new.flash) (F.marks self.new.flash) self.new.layout) }
     {
         if !self.takes(page, slot) {
@@ -250,6 +252,7 @@ impl<F: MarkedFlash + Drop> SteadyFlash<F> {
         ensures same_counts { (self.new.operations ≡ self.old.operations) × (self.new.faults ≡ self.old.faults) }
         ensures numbers { IsNoGreater self.old.layout self.new.layout }
         ensures healthy { F.is_healthy self.old.flash → self.old.is_lost ≡ false → self.old.in_doubt ≡ None → page < self.old.layout.pages → (held_at self.old.layout.held page).number ≤ LAST_WRITTEN → IsOk result × F.is_healthy self.new.flash × (self.new.is_lost ≡ false) × (self.new.in_doubt ≡ None) }
+        ensures steady { IsSteady (F.size self.old.flash) (F.marks self.old.flash) self.old.layout self.old.is_lost → IsSteady (F.size self.new.flash) (F.marks self.new.flash) self.new.layout self.new.is_lost }
         ensures claimed { IsClaimed (F.size self.old.flash) (F.marks self.old.flash) self.old.layout → IfOk result (λ _. IsClaimed (F.size self.new.flash) (F.marks self.new.flash) self.new.layout) }
     {
         if !self.takes(page, 0) {
@@ -290,8 +293,8 @@ impl<F: MarkedFlash + Drop> NorFlash for SteadyFlash<F> {
 
     ghost is_faultless = { λ s n. F.is_healthy s.flash × (s.is_lost ≡ false) × (s.in_doubt ≡ None) × LastsFor s.layout n };
 
-    // where no fault was counted, the claims that counted do
-    ghost operates = { λ old operation new. (F.size new.flash ≡ F.size old.flash) × (new.faults ≡ old.faults → IsClaimed (F.size old.flash) (F.marks old.flash) old.layout → IsClaimed (F.size new.flash) (F.marks new.flash) new.layout) };
+    // the marks stay calm, or the flash is given up and they are sound; where no fault was counted, the claims that counted do
+    ghost operates = { λ old operation new. (F.size new.flash ≡ F.size old.flash) × (IsSteady (F.size old.flash) (F.marks old.flash) old.layout old.is_lost → IsSteady (F.size new.flash) (F.marks new.flash) new.layout new.is_lost) × (new.faults ≡ old.faults → IsClaimed (F.size old.flash) (F.marks old.flash) old.layout → IsClaimed (F.size new.flash) (F.marks new.flash) new.layout) };
 
     fn pages(&self) -> usize {
         self.layout.pages

@@ -10,6 +10,7 @@ ghost use Rattle.steady_flash.specs.Moves.{IsTorn};
 ghost use Rattle.steady_flash.specs.Shown.{shown, image_of, image_as, IsSettled, IsSettledBeside, IsSettledBut, IsKept, IsChanged, IsTornInto, IsDoubted};
 ghost use Rattle.steady_flash.specs.Faults.{Leaves, LeavesEither};
 ghost use Rattle.steady_flash.specs.Claims.{IsClaimed, IsNoGreater};
+ghost use Rattle.steady_flash.specs.Sound.{IsCalm, IsEnded};
 
 use crate::MarkedFlash;
 use crate::layout::{Doubt, Layout};
@@ -47,6 +48,9 @@ fn program<F: MarkedFlash>(
         (λ _. IsSettled (F.slots flash.new) layout.new × Programs (image_of (F.slots flash.old) layout.old) page slot bytes (image_of (F.slots flash.new) layout.new))
         (λ why. Leaves why (F.slots flash.old) layout.old page slot bytes (F.slots flash.new) layout.new) }
     ensures healthy { F.is_healthy flash.old → (held_at layout.old.held page).number ≤ LAST_WRITTEN → IsOk result × F.is_healthy flash.new }
+    ensures calm { IsCalm (F.size flash.old) (F.marks flash.old) layout.old → MatchResult result
+        (λ _. IsCalm (F.size flash.old) (F.marks flash.new) layout.new)
+        (λ why. IsEnded (F.size flash.old) (F.marks flash.new) layout.new why) }
     ensures claimed { IsClaimed (F.size flash.old) (F.marks flash.old) layout.old → IfOk result (λ _. IsClaimed (F.size flash.old) (F.marks flash.new) layout.new) }
 {
     let held = flash.read_slot(layout.held[page].page as usize, slot);
@@ -81,6 +85,9 @@ pub fn write<F: MarkedFlash>(
         (λ _. Programs (image_as (F.slots flash.old) layout.old in_doubt.old) page slot bytes (image_as (F.slots flash.new) layout.new in_doubt.new))
         (λ _. MayProgram (image_as (F.slots flash.old) layout.old in_doubt.old) page slot bytes (image_as (F.slots flash.new) layout.new in_doubt.new)) }
     ensures healthy { F.is_healthy flash.old → (held_at layout.old.held page).number ≤ LAST_WRITTEN → IsOk result × F.is_healthy flash.new }
+    ensures calm { IsCalm (F.size flash.old) (F.marks flash.old) layout.old → MatchResult result
+        (λ _. IsCalm (F.size flash.old) (F.marks flash.new) layout.new)
+        (λ why. IsEnded (F.size flash.old) (F.marks flash.new) layout.new why) }
     ensures claimed { IsClaimed (F.size flash.old) (F.marks flash.old) layout.old → IfOk result (λ _. IsClaimed (F.size flash.old) (F.marks flash.new) layout.new) }
 {
     match program(flash, layout, page, slot, bytes) {
@@ -113,6 +120,9 @@ fn change<F: MarkedFlash>(
         (λ _. IsChanged (F.slots flash.old) layout.old page slot bytes (F.slots flash.new) layout.new)
         (λ why. LeavesEither why (IsKept (F.slots flash.old) layout.old (F.slots flash.new) layout.new) ⊥) }
     ensures healthy { F.is_healthy flash.old → (held_at layout.old.held page).number ≤ LAST_WRITTEN → IsOk result × F.is_healthy flash.new }
+    ensures calm { IsCalm (F.size flash.old) (F.marks flash.old) layout.old → MatchResult result
+        (λ _. IsCalm (F.size flash.old) (F.marks flash.new) layout.new)
+        (λ why. IsEnded (F.size flash.old) (F.marks flash.new) layout.new why) }
     ensures claimed { IsClaimed (F.size flash.old) (F.marks flash.old) layout.old → IfOk result (λ _. IsClaimed (F.size flash.old) (F.marks flash.new) layout.new) }
 {
     let change = Changed { slot, bytes };
@@ -146,6 +156,9 @@ fn fill<F: MarkedFlash>(
         (λ _. IsChanged (F.slots flash.old) layout.old page slot bytes (F.slots flash.new) layout.new)
         (λ why. LeavesEither why (IsTornInto (F.slots flash.old) layout.old page slot bytes (F.slots flash.new) layout.new) (IsDoubted (F.slots flash.old) layout.old page slot (F.slots flash.new) layout.new)) }
     ensures healthy { F.is_healthy flash.old → IsOk result × F.is_healthy flash.new }
+    ensures calm { IsCalm (F.size flash.old) (F.marks flash.old) layout.old → MatchResult result
+        (λ _. IsCalm (F.size flash.old) (F.marks flash.new) layout.new)
+        (λ why. IsEnded (F.size flash.old) (F.marks flash.new) layout.new why) }
     ensures claimed { IsClaimed (F.size flash.old) (F.marks flash.old) layout.old → IfOk result (λ _. IsClaimed (F.size flash.old) (F.marks flash.new) layout.new) }
 {
     if open(flash, layout, page).is_err() {
@@ -169,6 +182,7 @@ fn open<F: MarkedFlash>(flash: &mut F, layout: &mut Layout, page: usize) -> Resu
     ensures same_places { (p : ℕ) → (held_at layout.new.held p).page ≡ (held_at layout.old.held p).page }
     ensures numbers { (p : ℕ) → (held_at layout.new.held p).number ≡ (held_at layout.old.held p).number }
     ensures healthy { F.is_healthy flash.old → IsOk result × F.is_healthy flash.new }
+    ensures calm { IsCalm (F.size flash.old) (F.marks flash.old) layout.old → IsCalm (F.size flash.old) (F.marks flash.new) layout.new }
     ensures claimed { IsClaimed (F.size flash.old) (F.marks flash.old) layout.old → IsClaimed (F.size flash.old) (F.marks flash.new) layout.new }
 {
     if layout.held[page].is_opened {
@@ -190,6 +204,7 @@ fn settle<F: MarkedFlash>(flash: &mut F, layout: &mut Layout, page: usize, slot:
     ensures numbers { IsNoGreater layout.old layout.new }
     ensures outcome { (bytes : Bytes) → IsEight bytes → IsSettledBut (F.slots flash.old) layout.old page slot → IsTorn bytes (F.slots flash.old (held_at layout.old.held page).page slot)
         → LeavesEither result (IsTornInto (F.slots flash.old) layout.old page slot bytes (F.slots flash.new) layout.new) (IsDoubted (F.slots flash.old) layout.old page slot (F.slots flash.new) layout.new) }
+    ensures calm { IsCalm (F.size flash.old) (F.marks flash.old) layout.old → IsEnded (F.size flash.old) (F.marks flash.new) layout.new result }
 {
     let read = flash.read_slot(layout.held[page].page as usize, slot);
     let change = Changed { slot, bytes: read };

@@ -1,5 +1,6 @@
 use Rattle.std.proofs.Common.{arith, ◌<◌, ◌∙◌}
 use Rattle.steady_flash.specs.Shown.{IsKept}
+use Rattle.steady_flash.proofs.Switching.{calm_same}
 use Rattle.steady_flash.proofs.Claiming.{claimed_same}
 use Rattle.steady_flash.proofs.Session.{kept_by_same, kept_torn, settled_but, others_in_place, torn_into, doubted_from, left_as}
 use Rattle.steady_flash.proofs.writing.fill.Goals as goal
@@ -26,3 +27,12 @@ returns-in-Ok-clause-claimed g c = λ k.
 
 pub returns-in-Err-clause-numbers : goal.returns-in-Err-clause-numbers
 returns-in-Err-clause-numbers g c = λ p. omega (arith, c.settle.ensures.numbers p, c.open.ensures.numbers p)
+
+pub returns-in-Ok-clause-calm : goal.returns-in-Ok-clause-calm
+returns-in-Ok-clause-calm g c = λ k.
+    calm_same _ (g.F.MarkedFlash.marks c.open.new.flash) (g.F.MarkedFlash.marks c.program_slot.new.flash) c.open.new.layout c.program_slot.ensures.marks (c.open.ensures.calm k)
+
+pub returns-in-Err-clause-calm : goal.returns-in-Err-clause-calm
+returns-in-Err-clause-calm g c = λ k.
+    let x = c.settle.ensures.calm (rw (c.program_slot.ensures.same_size, c.open.ensures.same_size) (calm_same _ (g.F.MarkedFlash.marks c.open.new.flash) (g.F.MarkedFlash.marks c.program_slot.new.flash) c.open.new.layout c.program_slot.ensures.marks (c.open.ensures.calm k))) in
+    rw (c.program_slot.ensures.same_size, c.open.ensures.same_size) at x

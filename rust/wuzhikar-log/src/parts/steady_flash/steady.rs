@@ -24,8 +24,9 @@ pub const NO_SLOT: [u8; SLOT_BYTES] = [255, 255, 255, 127, 255, 255, 255, 255];
 /// begun is firm. On a healthy flash a start, a program and an erase succeed, until marks or numbers end.
 ///
 /// A power loss is a flash whose operations all fail from then on, the first of them torn. Of a start that is cut it is proved that
-/// the cells show no more than before it, and that one completed behind it shows what was there. What a session leaves of the marks
-/// when it is cut is **tested, not proved**, under these premises:
+/// the cells show no more than before it, and that one completed behind it shows what was there. A session that is cut leaves sound
+/// marks: each page is found where it was, or on the spare page. What its slots read as then is **tested, not proved**, under these
+/// premises:
 ///
 /// - The flash does what [`MarkedFlash`] asks, and nothing else writes there, a plain log neither.
 /// - The power is not lost inside as many starts in a row as half the triples of a page: at least 4, mostly 12. A start that ends
@@ -227,7 +228,7 @@ impl<F: MarkedFlash> SteadyFlash<F> {
 }
 
 impl<F: MarkedFlash> NorFlash for SteadyFlash<F> {
-    // where no fault was counted, the claims that counted do
+    // the marks stay calm, or the flash is given up and they are sound; where no fault was counted, the claims that counted do
 
     fn pages(&self) -> usize {
         self.layout.pages

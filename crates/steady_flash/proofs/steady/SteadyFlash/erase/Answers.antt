@@ -1,6 +1,7 @@
-use Rattle.std.proofs.Common.{rules, arith, ◌≡◌, ◌∙◌, None}
+use Rattle.std.proofs.Common.{rules, arith, ◌≡◌, ◌∙◌, None, false}
 use Rattle.std.proofs.lemmas.Bool.{false≢true}
 use Rattle.steady_flash.specs.Moves.{moved}
+use Rattle.steady_flash.proofs.Calm.{stopped_sound, sound_after}
 use Rattle.steady_flash.proofs.Session.{blanked_by_move, kept_by_spare, erases_of, keeps_erase}
 use Rattle.steady_flash.proofs.Doubts.{settled_all, erases_as, may_erase_as}
 use Rattle.steady_flash.proofs.steady.SteadyFlash.erase.Goals as goal
@@ -28,3 +29,9 @@ returns-in-Err-clause-outcome g c b =
 
 pub returns-in-Err-clause-healthy : goal.returns-in-Err-clause-healthy
 returns-in-Err-clause-healthy g c = λ h lost none b n. absurd (false≢true ((c.in-Err.ensures.healthy h).2 (omega (arith, n))))
+
+pub returns-in-Err-InDoubt-clause-steady : goal.returns-in-Err-InDoubt-clause-steady
+returns-in-Err-InDoubt-clause-steady g c = λ k.
+    let lost : c.args.self.now.is_lost ≡ false = search rules in
+    let x = sound_after _ (g.F.MarkedFlash.marks c.erase_page.new.flash) (g.F.MarkedFlash.marks c.give_up.new.self) c.give_up.ensures.marks (stopped_sound _ (g.F.MarkedFlash.marks c.erase_page.new.flash) c.args.self.now.layout c.args.page c.in-Err-InDoubt.field-0 (c.in-Err-InDoubt.ensures.calm (rw lost at k))) in
+    rw (c.give_up.ensures.same_size, c.erase_page.ensures.same_size) x
