@@ -40,3 +40,11 @@ calm_flagged size marks layout page x b e f n c =
     refl
     (λ p d. at_set (λ (h : Held). IsSameClaim h (held_at layout.held p)) layout.held page p x in_held (λ same. rw same (sym e, sym f, sym n)) (λ other. (refl, refl, refl)))
     (λ p d. at_set (λ (h : Held). IsQuiet size marks layout.pages p h.number) layout.held page p x in_held (λ same. rw (same, n) (c.quiet page b)) (λ other. c.quiet p d))
+
+pub stopped_moving : (size : Size) (marks : ℕ → ℕ → Written) (layout : Layout) (page : ℕ) (stop : Stop) → stop ≡ InDoubt → IsStopped size marks layout page stop → IsSound size marks (moving_at layout page)
+stopped_moving size marks layout page stop e c = rw e at c
+
+pub stopped_calm : (size : Size) (marks : ℕ → ℕ → Written) (layout : Layout) (page : ℕ) (stop : Stop) → (stop ≡ InDoubt → ⊥) → IsStopped size marks layout page stop → IsCalm size marks layout
+stopped_calm size marks layout page Fault apart c = c
+stopped_calm size marks layout page (Named why) apart c = c
+stopped_calm size marks layout page InDoubt apart c = absurd (apart refl)

@@ -18,3 +18,4 @@ pub mod Switching
 pub mod Bumping
 pub mod Shrinking
 pub mod Calm
+pub mod Cutting

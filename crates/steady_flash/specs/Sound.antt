@@ -2,12 +2,14 @@
 use Rattle.shapes.specs.Shapes.{Bytes}
 use Rattle.std.specs.Prelude.{◌≡◌, ℕ, ◌+◌, ◌*◌, ◌<◌, ◌≤◌, ◌⊎◌, replicate, [], Bool, true, false}
 use Rattle.flash_model.specs.Torn.{Within}
+use Rattle.flash_model.specs.Operations.{MayErase}
+use Rattle.flash_model.specs.FlashOperation.{FlashOperation, programs, erases}
 use Rattle.flash_model.specs.declared.TheConstants.{PAGE_SLOTS}
 use Rattle.steady_flash.specs.Cells.{Written, IsReading, blank, erased}
 use Rattle.steady_flash.specs.Marked.{Size}
 use Rattle.steady_flash.specs.Layout.{held_at, IsLaidOut}
 use Rattle.steady_flash.specs.Moves.{IsTorn}
-use Rattle.steady_flash.specs.Shown.{IsSettled}
+use Rattle.steady_flash.specs.Shown.{IsSettled, bytes_of}
 use Rattle.steady_flash.specs.Claims.{IsClaim, IsBegun, IsMarked, IsOpenTold}
 use Rattle.steady_flash.specs.declared.layout.Held.{Held}
 use Rattle.steady_flash.specs.declared.layout.Layout.{Layout}
@@ -181,3 +183,16 @@ pub record IsStarted (size : Size) (before : Standing) (marks slots : ℕ → �
   pub calm : IsCalm size marks' layout
   pub shrinks : Shrinks size before marks slots (steady_at layout) marks' slots'
   pub settled : IsTold marks slots before → IsSettled slots' layout
+
+-- behind an operation that the power was lost in: each image that a start may show is one of these, and no page hides a cell in doubt
+pub record IsCut (size : Size) (marks slots : ℕ → ℕ → Written) (pages : ℕ) (may_be : Bytes → Type 0) : Type 0 where
+  pub standing : Standing
+  pub sound : IsSound size marks standing
+  pub pages_there : standing.layout.pages ≡ pages
+  pub told : IsTold marks slots standing
+  pub shows : (read : ℕ → ℕ → Bytes) → MayShow slots standing read → may_be (bytes_of read pages)
+
+-- of a program nothing is said here: a slot that it was torn at may be in doubt
+abbrev pub IsOperationCut : Size → (ℕ → ℕ → Written) → (ℕ → ℕ → Written) → ℕ → Bytes → FlashOperation → Type 0
+IsOperationCut size marks slots pages old (erases page) = page < pages → IsCut size marks slots pages (MayErase old page)
+IsOperationCut size marks slots pages old (programs page slot bytes) = Unit {0}

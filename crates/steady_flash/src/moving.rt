@@ -307,7 +307,7 @@ pub fn erase_page<F: MarkedFlash>(
     ensures same_pages { layout.new.pages ≡ layout.old.pages }
     ensures others { OnePageOfPlaces (F.slots flash.old) layout.old.spare (F.slots flash.new) }
     ensures moved { MatchResult result (λ _. layout.new ≡ moved layout.old page) (λ _. layout.new ≡ layout.old) }
-    ensures erased { IfOk result (λ _. IsErasedPage (F.slots flash.new) layout.old.spare) }
+    ensures erased { MatchResult result (λ _. IsErasedPage (F.slots flash.new) layout.old.spare) (λ stop. stop ≡ Stop.InDoubt → IsErasedPage (F.slots flash.new) layout.old.spare) }
     ensures healthy { F.is_healthy flash.old → F.is_healthy flash.new × IfErr result IsRefused × ((held_at layout.old.held page).number + 1 < 2 ^ 21 → IsOk result) }
     ensures opened { (q : ℕ) → (q ≡ layout.old.spare → ⊥) → F.marks flash.new q 0 ≡ F.marks flash.old q 0 }
     ensures calm { IsCalm (F.size flash.old) (F.marks flash.old) layout.old → MatchResult result

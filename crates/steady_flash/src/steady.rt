@@ -5,7 +5,7 @@ ghost use Rattle.steady_flash.specs.Healthy.{IsRefusal};
 ghost use Rattle.flash_model.specs.Operations.{Programs, MayProgram, Erases, MayErase};
 ghost use Rattle.steady_flash.specs.Layout.{held_at, IsLaidOut, LastsFor};
 ghost use Rattle.steady_flash.specs.Shown.{image_of, image_as, read_as, IsSettled, IsSettledBeside, IsReadImage};
-ghost use Rattle.steady_flash.specs.Sound.{Standing, IsSound, IsSteady, IsStarted, IsShrunk};
+ghost use Rattle.steady_flash.specs.Sound.{Standing, IsSound, IsSteady, IsStarted, IsShrunk, IsCut, IsOperationCut};
 ghost use Rattle.steady_flash.specs.Claims.{IsClaimed, IsNoGreater, IsOpenTold, IsOurs, HasRoom};
 ghost use Rattle.steady_flash.specs.Told.{IsFoundTold};
 
@@ -33,8 +33,8 @@ pub const NO_SLOT: [u8; SLOT_BYTES] = [255, 255, 255, 127, 255, 255, 255, 255];
 ///
 /// A power loss is a flash whose operations all fail from then on, the first of them torn. Of a start that is cut it is proved that
 /// the cells show no more than before it, and that one completed behind it shows what was there. A session that is cut leaves sound
-/// marks: each page is found where it was, or on the spare page. What its slots read as then is **tested, not proved**, under these
-/// premises:
+/// marks: each page is found where it was, or on the spare page. Behind an erase that is cut a start shows the page as it was, or
+/// blank. What it shows of a slot whose program is cut is **tested, not proved**, under these premises:
 ///
 /// - The flash does what [`MarkedFlash`] asks, and nothing else writes there, a plain log neither.
 /// - The power is not lost inside as many starts in a row as half the triples of a page: at least 4, mostly 12. A start that ends
@@ -247,6 +247,8 @@ impl<F: MarkedFlash + Drop> SteadyFlash<F> {
         ensures outcome { page < self.old.layout.pages → MatchResult result
             (λ _. Erases (image_as (F.slots self.old.flash) self.old.layout self.old.in_doubt) page (image_as (F.slots self.new.flash) self.new.layout self.new.in_doubt))
             (λ _. MayErase (image_as (F.slots self.old.flash) self.old.layout self.old.in_doubt) page (image_as (F.slots self.new.flash) self.new.layout self.new.in_doubt)) }
+        ensures cut { IsSteady (F.size self.old.flash) (F.marks self.old.flash) self.old.layout self.old.is_lost → self.old.is_lost ≡ false → self.old.in_doubt ≡ None → page < self.old.layout.pages
+            → IsCut (F.size self.new.flash) (F.marks self.new.flash) (F.slots self.new.flash) self.old.layout.pages (MayErase (image_as (F.slots self.old.flash) self.old.layout self.old.in_doubt) page) }
         ensures same_size { F.size self.new.flash ≡ F.size self.old.flash }
         ensures same_pages { self.new.layout.pages ≡ self.old.layout.pages }
         ensures same_counts { (self.new.operations ≡ self.old.operations) × (self.new.faults ≡ self.old.faults) }
@@ -294,7 +296,9 @@ impl<F: MarkedFlash + Drop> NorFlash for SteadyFlash<F> {
     ghost is_faultless = { λ s n. F.is_healthy s.flash × (s.is_lost ≡ false) × (s.in_doubt ≡ None) × LastsFor s.layout n };
 
     // the marks stay calm, or the flash is given up and they are sound; where no fault was counted, the claims that counted do
-    ghost operates = { λ old operation new. (F.size new.flash ≡ F.size old.flash) × (IsSteady (F.size old.flash) (F.marks old.flash) old.layout old.is_lost → IsSteady (F.size new.flash) (F.marks new.flash) new.layout new.is_lost) × (new.faults ≡ old.faults → IsClaimed (F.size old.flash) (F.marks old.flash) old.layout → IsClaimed (F.size new.flash) (F.marks new.flash) new.layout) };
+    ghost operates = { λ old operation new. (F.size new.flash ≡ F.size old.flash) × (IsSteady (F.size old.flash) (F.marks old.flash) old.layout old.is_lost → IsSteady (F.size new.flash) (F.marks new.flash) new.layout new.is_lost)
+        × (IsSteady (F.size old.flash) (F.marks old.flash) old.layout old.is_lost → old.is_lost ≡ false → old.in_doubt ≡ None → IsOperationCut (F.size new.flash) (F.marks new.flash) (F.slots new.flash) old.layout.pages (image_as (F.slots old.flash) old.layout old.in_doubt) operation)
+        × (new.faults ≡ old.faults → IsClaimed (F.size old.flash) (F.marks old.flash) old.layout → IsClaimed (F.size new.flash) (F.marks new.flash) new.layout) };
 
     fn pages(&self) -> usize {
         self.layout.pages
