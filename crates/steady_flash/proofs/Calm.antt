@@ -3,9 +3,11 @@ use Rattle.std.proofs.Common.{◌≡◌, ℕ, ◌+◌, ◌*◌, ◌<◌, length,
 use Rattle.steady_flash.specs.Cells.{Written}
 use Rattle.steady_flash.specs.Marked.{Size, Same}
 use Rattle.steady_flash.specs.Layout.{held_at}
-use Rattle.steady_flash.specs.Sound.{Standing, IsSound, IsCalm, IsQuiet, IsSameClaim, IsStopped, steady_at, moving_at}
+use Rattle.steady_flash.specs.Sound.{Standing, IsSound, IsCalm, IsQuiet, IsSameClaim, IsStopped, IsEnded, steady_at, moving_at}
 use Rattle.steady_flash.specs.declared.layout.Held.{Held}
 use Rattle.steady_flash.specs.declared.layout.Layout.{Layout}
+use Rattle.steady_flash.specs.declared.writing.Failed.{Failed}
+use Rattle.steady_flash.specs.declared.writing.Failed.TheVariants.{Torn}
 use Rattle.steady_flash.specs.declared.moving.Stop.{Stop}
 use Rattle.steady_flash.specs.declared.moving.Stop.TheVariants.{Fault, InDoubt, Named}
 use Rattle.steady_flash.proofs.Layouts.{at_set, laid_bumped}
@@ -48,3 +50,6 @@ pub stopped_calm : (size : Size) (marks : ℕ → ℕ → Written) (layout : Lay
 stopped_calm size marks layout page Fault apart c = c
 stopped_calm size marks layout page (Named why) apart c = c
 stopped_calm size marks layout page InDoubt apart c = absurd (apart refl)
+
+pub ended_torn : (size : Size) (marks : ℕ → ℕ → Written) (layout : Layout) (why : Failed) → why ≡ Torn → IsEnded size marks layout why → IsCalm size marks layout
+ended_torn size marks layout why e c = rw e at c

@@ -2,10 +2,10 @@
 use Rattle.shapes.specs.Shapes.{Bytes}
 use Rattle.std.specs.Prelude.{◌≡◌, ℕ, ◌+◌, ◌*◌, ◌<◌, ◌≤◌, ◌⊎◌, replicate, [], Bool, true, false}
 use Rattle.flash_model.specs.Torn.{Within}
-use Rattle.flash_model.specs.Operations.{MayErase}
+use Rattle.flash_model.specs.Operations.{MayProgram, MayErase}
 use Rattle.flash_model.specs.FlashOperation.{FlashOperation, programs, erases}
 use Rattle.flash_model.specs.declared.TheConstants.{PAGE_SLOTS}
-use Rattle.steady_flash.specs.Cells.{Written, IsReading, blank, erased}
+use Rattle.steady_flash.specs.Cells.{IsEight, Written, IsReading, blank, erased}
 use Rattle.steady_flash.specs.Marked.{Size}
 use Rattle.steady_flash.specs.Layout.{held_at, IsLaidOut}
 use Rattle.steady_flash.specs.Moves.{IsTorn}
@@ -184,15 +184,20 @@ pub record IsStarted (size : Size) (before : Standing) (marks slots : ℕ → �
   pub shrinks : Shrinks size before marks slots (steady_at layout) marks' slots'
   pub settled : IsTold marks slots before → IsSettled slots' layout
 
--- behind an operation that the power was lost in: each image that a start may show is one of these, and no page hides a cell in doubt
-pub record IsCut (size : Size) (marks slots : ℕ → ℕ → Written) (pages : ℕ) (may_be : Bytes → Type 0) : Type 0 where
+-- behind an operation that the power was lost in: each image that a start may show is one of these, and where that is so no page hides
+-- a cell in doubt
+pub record IsCut (size : Size) (marks slots : ℕ → ℕ → Written) (pages : ℕ) (tells : Type 0) (may_be : Bytes → Type 0) : Type 0 where
   pub standing : Standing
   pub sound : IsSound size marks standing
   pub pages_there : standing.layout.pages ≡ pages
-  pub told : IsTold marks slots standing
-  pub shows : (read : ℕ → ℕ → Bytes) → MayShow slots standing read → may_be (bytes_of read pages)
+  pub told : tells → IsTold marks slots standing
+  pub shows : (read : ℕ → ℕ → Bytes) → ((p s : ℕ) → p < pages → s < PAGE_SLOTS → IsEight (read p s)) → MayShow slots standing read → may_be (bytes_of read pages)
 
--- of a program nothing is said here: a slot that it was torn at may be in doubt
-abbrev pub IsOperationCut : Size → (ℕ → ℕ → Written) → (ℕ → ℕ → Written) → ℕ → Bytes → FlashOperation → Type 0
-IsOperationCut size marks slots pages old (erases page) = page < pages → IsCut size marks slots pages (MayErase old page)
-IsOperationCut size marks slots pages old (programs page slot bytes) = Unit {0}
+-- the mark of a page does not read as blank, so that its next start settles it
+abbrev pub IsOpen : (ℕ → ℕ → Written) → ℕ → Type 0
+IsOpen marks at = IsReading (marks at 0).cells blank → ⊥
+
+-- of a program that is so where the page says that slots of it are programmed
+abbrev pub IsOperationCut : Size → (ℕ → ℕ → Written) → (ℕ → ℕ → Written) → Layout → Bytes → FlashOperation → Type 0
+IsOperationCut size marks slots layout old (erases page) = page < layout.pages → IsCut size marks slots layout.pages (Unit {0}) (MayErase old page)
+IsOperationCut size marks slots layout old (programs page slot bytes) = page < layout.pages → slot < PAGE_SLOTS → IsCut size marks slots layout.pages (IsOpen marks (held_at layout.held page).page) (MayProgram old page slot bytes)

@@ -5,7 +5,7 @@ ghost use Rattle.steady_flash.specs.Healthy.{IsRefusal};
 ghost use Rattle.flash_model.specs.Operations.{Programs, MayProgram, Erases, MayErase};
 ghost use Rattle.steady_flash.specs.Layout.{held_at, IsLaidOut, LastsFor};
 ghost use Rattle.steady_flash.specs.Shown.{image_of, image_as, read_as, IsSettled, IsSettledBeside, IsReadImage};
-ghost use Rattle.steady_flash.specs.Sound.{Standing, IsSound, IsSteady, IsStarted, IsShrunk, IsCut, IsOperationCut};
+ghost use Rattle.steady_flash.specs.Sound.{Standing, IsSound, IsSteady, IsStarted, IsShrunk, IsCut, IsOpen, IsOperationCut};
 ghost use Rattle.steady_flash.specs.Claims.{IsClaimed, IsNoGreater, IsOpenTold, IsOurs, HasRoom};
 ghost use Rattle.steady_flash.specs.Told.{IsFoundTold};
 
@@ -33,8 +33,8 @@ pub const NO_SLOT: [u8; SLOT_BYTES] = [255, 255, 255, 127, 255, 255, 255, 255];
 ///
 /// A power loss is a flash whose operations all fail from then on, the first of them torn. Of a start that is cut it is proved that
 /// the cells show no more than before it, and that one completed behind it shows what was there. A session that is cut leaves sound
-/// marks: each page is found where it was, or on the spare page. Behind an erase that is cut a start shows the page as it was, or
-/// blank. What it shows of a slot whose program is cut is **tested, not proved**, under these premises:
+/// marks, and cells that a start shows as `NorFlash` says of a torn operation. That the page of a torn program tells the next start
+/// so, which then settles it, is **tested, not proved**, under these premises:
 ///
 /// - The flash does what [`MarkedFlash`] asks, and nothing else writes there, a plain log neither.
 /// - The power is not lost inside as many starts in a row as half the triples of a page: at least 4, mostly 12. A start that ends
@@ -214,6 +214,8 @@ impl<F: MarkedFlash + Drop> SteadyFlash<F> {
         ensures outcome { page < self.old.layout.pages → slot < PAGE_SLOTS → MatchResult result
             (λ _. Programs (image_as (F.slots self.old.flash) self.old.layout self.old.in_doubt) page slot bytes (image_as (F.slots self.new.flash) self.new.layout self.new.in_doubt))
             (λ _. MayProgram (image_as (F.slots self.old.flash) self.old.layout self.old.in_doubt) page slot bytes (image_as (F.slots self.new.flash) self.new.layout self.new.in_doubt)) }
+        ensures cut { IsSteady (F.size self.old.flash) (F.marks self.old.flash) self.old.layout self.old.is_lost → self.old.is_lost ≡ false → self.old.in_doubt ≡ None → page < self.old.layout.pages → slot < PAGE_SLOTS
+            → IsCut (F.size self.new.flash) (F.marks self.new.flash) (F.slots self.new.flash) self.old.layout.pages (IsOpen (F.marks self.new.flash) (held_at self.old.layout.held page).page) (MayProgram (image_as (F.slots self.old.flash) self.old.layout self.old.in_doubt) page slot bytes) }
         ensures same_size { F.size self.new.flash ≡ F.size self.old.flash }
         ensures same_pages { self.new.layout.pages ≡ self.old.layout.pages }
         ensures same_counts { (self.new.operations ≡ self.old.operations) × (self.new.faults ≡ self.old.faults) }
@@ -248,7 +250,7 @@ impl<F: MarkedFlash + Drop> SteadyFlash<F> {
             (λ _. Erases (image_as (F.slots self.old.flash) self.old.layout self.old.in_doubt) page (image_as (F.slots self.new.flash) self.new.layout self.new.in_doubt))
             (λ _. MayErase (image_as (F.slots self.old.flash) self.old.layout self.old.in_doubt) page (image_as (F.slots self.new.flash) self.new.layout self.new.in_doubt)) }
         ensures cut { IsSteady (F.size self.old.flash) (F.marks self.old.flash) self.old.layout self.old.is_lost → self.old.is_lost ≡ false → self.old.in_doubt ≡ None → page < self.old.layout.pages
-            → IsCut (F.size self.new.flash) (F.marks self.new.flash) (F.slots self.new.flash) self.old.layout.pages (MayErase (image_as (F.slots self.old.flash) self.old.layout self.old.in_doubt) page) }
+            → IsCut (F.size self.new.flash) (F.marks self.new.flash) (F.slots self.new.flash) self.old.layout.pages (Unit {0}) (MayErase (image_as (F.slots self.old.flash) self.old.layout self.old.in_doubt) page) }
         ensures same_size { F.size self.new.flash ≡ F.size self.old.flash }
         ensures same_pages { self.new.layout.pages ≡ self.old.layout.pages }
         ensures same_counts { (self.new.operations ≡ self.old.operations) × (self.new.faults ≡ self.old.faults) }
@@ -297,7 +299,7 @@ impl<F: MarkedFlash + Drop> NorFlash for SteadyFlash<F> {
 
     // the marks stay calm, or the flash is given up and they are sound; where no fault was counted, the claims that counted do
     ghost operates = { λ old operation new. (F.size new.flash ≡ F.size old.flash) × (IsSteady (F.size old.flash) (F.marks old.flash) old.layout old.is_lost → IsSteady (F.size new.flash) (F.marks new.flash) new.layout new.is_lost)
-        × (IsSteady (F.size old.flash) (F.marks old.flash) old.layout old.is_lost → old.is_lost ≡ false → old.in_doubt ≡ None → IsOperationCut (F.size new.flash) (F.marks new.flash) (F.slots new.flash) old.layout.pages (image_as (F.slots old.flash) old.layout old.in_doubt) operation)
+        × (IsSteady (F.size old.flash) (F.marks old.flash) old.layout old.is_lost → old.is_lost ≡ false → old.in_doubt ≡ None → IsOperationCut (F.size new.flash) (F.marks new.flash) (F.slots new.flash) old.layout (image_as (F.slots old.flash) old.layout old.in_doubt) operation)
         × (new.faults ≡ old.faults → IsClaimed (F.size old.flash) (F.marks old.flash) old.layout → IsClaimed (F.size new.flash) (F.marks new.flash) new.layout) };
 
     fn pages(&self) -> usize {

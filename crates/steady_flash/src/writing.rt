@@ -1,16 +1,16 @@
 //! How a slot of the log is programmed: where it stands, or by a move of its page.
 
-ghost use Rattle.std.specs.Prelude.{◌≡◌, ◌+◌, ◌<◌, ◌≤◌, ◌^◌, ℕ, None, IfOk, IsOk, MatchResult, slice_index, bit_and};
+ghost use Rattle.std.specs.Prelude.{◌≡◌, ◌+◌, ◌<◌, ◌≤◌, ◌^◌, ℕ, None, Some, IfOk, IfErr, IsOk, MatchResult, slice_index, bit_and};
 ghost use Rattle.shapes.specs.Shapes.{Bytes};
 ghost use Rattle.flash_model.specs.Operations.{Programs, MayProgram};
 ghost use Rattle.steady_flash.specs.Cells.{IsEight, blank};
-ghost use Rattle.steady_flash.specs.Marked.{Same};
+ghost use Rattle.steady_flash.specs.Marked.{Same, OnePageOfPlaces};
 ghost use Rattle.steady_flash.specs.Layout.{held_at, IsLaidOut};
-ghost use Rattle.steady_flash.specs.Moves.{IsTorn};
+ghost use Rattle.steady_flash.specs.Moves.{IsTorn, IsCopy};
 ghost use Rattle.steady_flash.specs.Shown.{shown, image_of, image_as, IsSettled, IsSettledBeside, IsSettledBut, IsKept, IsChanged, IsTornInto, IsDoubted};
 ghost use Rattle.steady_flash.specs.Faults.{Leaves, LeavesEither};
 ghost use Rattle.steady_flash.specs.Claims.{IsClaimed, IsNoGreater};
-ghost use Rattle.steady_flash.specs.Sound.{IsCalm, IsEnded};
+ghost use Rattle.steady_flash.specs.Sound.{IsSound, IsCalm, IsEnded, IsShrunk, IsCut, IsOpen, steady_at, moving_at};
 
 use crate::MarkedFlash;
 use crate::layout::{Doubt, Layout};
@@ -48,6 +48,8 @@ fn program<F: MarkedFlash>(
         (λ _. IsSettled (F.slots flash.new) layout.new × Programs (image_of (F.slots flash.old) layout.old) page slot bytes (image_of (F.slots flash.new) layout.new))
         (λ why. Leaves why (F.slots flash.old) layout.old page slot bytes (F.slots flash.new) layout.new) }
     ensures healthy { F.is_healthy flash.old → (held_at layout.old.held page).number ≤ LAST_WRITTEN → IsOk result × F.is_healthy flash.new }
+    ensures cut { IsCalm (F.size flash.old) (F.marks flash.old) layout.old → IsSettled (F.slots flash.old) layout.old
+        → IfErr result (λ why. (why ≡ Failed.Torn → ⊥) → IsCut (F.size flash.old) (F.marks flash.new) (F.slots flash.new) layout.old.pages (IsOpen (F.marks flash.new) (held_at layout.old.held page).page) (MayProgram (image_of (F.slots flash.old) layout.old) page slot bytes)) }
     ensures calm { IsCalm (F.size flash.old) (F.marks flash.old) layout.old → MatchResult result
         (λ _. IsCalm (F.size flash.old) (F.marks flash.new) layout.new)
         (λ why. IsEnded (F.size flash.old) (F.marks flash.new) layout.new why) }
@@ -85,6 +87,9 @@ pub fn write<F: MarkedFlash>(
         (λ _. Programs (image_as (F.slots flash.old) layout.old in_doubt.old) page slot bytes (image_as (F.slots flash.new) layout.new in_doubt.new))
         (λ _. MayProgram (image_as (F.slots flash.old) layout.old in_doubt.old) page slot bytes (image_as (F.slots flash.new) layout.new in_doubt.new)) }
     ensures healthy { F.is_healthy flash.old → (held_at layout.old.held page).number ≤ LAST_WRITTEN → IsOk result × F.is_healthy flash.new }
+    ensures cut { IsCalm (F.size flash.old) (F.marks flash.old) layout.old → in_doubt.old ≡ None → IsSettledBeside (F.slots flash.old) layout.old in_doubt.old
+        → IfErr result (λ why. (why ≡ Failed.Torn → ⊥) → IsCut (F.size flash.old) (F.marks flash.new) (F.slots flash.new) layout.old.pages (IsOpen (F.marks flash.new) (held_at layout.old.held page).page) (MayProgram (image_as (F.slots flash.old) layout.old in_doubt.old) page slot bytes)) }
+    ensures no_doubt { IfErr result (λ why. why ≡ Failed.Torn → in_doubt.new ≡ in_doubt.old) }
     ensures calm { IsCalm (F.size flash.old) (F.marks flash.old) layout.old → MatchResult result
         (λ _. IsCalm (F.size flash.old) (F.marks flash.new) layout.new)
         (λ why. IsEnded (F.size flash.old) (F.marks flash.new) layout.new why) }
@@ -120,6 +125,8 @@ fn change<F: MarkedFlash>(
         (λ _. IsChanged (F.slots flash.old) layout.old page slot bytes (F.slots flash.new) layout.new)
         (λ why. LeavesEither why (IsKept (F.slots flash.old) layout.old (F.slots flash.new) layout.new) ⊥) }
     ensures healthy { F.is_healthy flash.old → (held_at layout.old.held page).number ≤ LAST_WRITTEN → IsOk result × F.is_healthy flash.new }
+    ensures cut { IsCalm (F.size flash.old) (F.marks flash.old) layout.old → IfErr result (λ why. (why ≡ Failed.Torn → ⊥) → IsSound (F.size flash.old) (F.marks flash.new) (moving_at layout.old page)
+        × OnePageOfPlaces (F.slots flash.old) layout.old.spare (F.slots flash.new) × IsCopy (F.slots flash.old) (held_at layout.old.held page).page (Some (record { slot = slot; bytes = bytes })) (F.slots flash.new) layout.old.spare) }
     ensures calm { IsCalm (F.size flash.old) (F.marks flash.old) layout.old → MatchResult result
         (λ _. IsCalm (F.size flash.old) (F.marks flash.new) layout.new)
         (λ why. IsEnded (F.size flash.old) (F.marks flash.new) layout.new why) }
@@ -156,6 +163,8 @@ fn fill<F: MarkedFlash>(
         (λ _. IsChanged (F.slots flash.old) layout.old page slot bytes (F.slots flash.new) layout.new)
         (λ why. LeavesEither why (IsTornInto (F.slots flash.old) layout.old page slot bytes (F.slots flash.new) layout.new) (IsDoubted (F.slots flash.old) layout.old page slot (F.slots flash.new) layout.new)) }
     ensures healthy { F.is_healthy flash.old → IsOk result × F.is_healthy flash.new }
+    ensures cut { IsCalm (F.size flash.old) (F.marks flash.old) layout.old → IsSettled (F.slots flash.old) layout.old → shown (F.slots flash.old) layout.old page slot ≡ blank → (bytes ≡ blank → ⊥)
+        → IfErr result (λ why. (why ≡ Failed.Torn → ⊥) → IsCut (F.size flash.old) (F.marks flash.new) (F.slots flash.new) layout.old.pages (IsOpen (F.marks flash.new) (held_at layout.old.held page).page) (MayProgram (image_of (F.slots flash.old) layout.old) page slot bytes)) }
     ensures calm { IsCalm (F.size flash.old) (F.marks flash.old) layout.old → MatchResult result
         (λ _. IsCalm (F.size flash.old) (F.marks flash.new) layout.new)
         (λ why. IsEnded (F.size flash.old) (F.marks flash.new) layout.new why) }
@@ -204,6 +213,8 @@ fn settle<F: MarkedFlash>(flash: &mut F, layout: &mut Layout, page: usize, slot:
     ensures numbers { IsNoGreater layout.old layout.new }
     ensures outcome { (bytes : Bytes) → IsEight bytes → IsSettledBut (F.slots flash.old) layout.old page slot → IsTorn bytes (F.slots flash.old (held_at layout.old.held page).page slot)
         → LeavesEither result (IsTornInto (F.slots flash.old) layout.old page slot bytes (F.slots flash.new) layout.new) (IsDoubted (F.slots flash.old) layout.old page slot (F.slots flash.new) layout.new) }
+    ensures opened { (q : ℕ) → (q ≡ layout.old.spare → ⊥) → F.marks flash.new q 0 ≡ F.marks flash.old q 0 }
+    ensures cut { IsCalm (F.size flash.old) (F.marks flash.old) layout.old → (result ≡ Failed.Torn → ⊥) → IsShrunk (F.size flash.old) (steady_at layout.old) (F.marks flash.old) (F.slots flash.old) (F.marks flash.new) (F.slots flash.new) }
     ensures calm { IsCalm (F.size flash.old) (F.marks flash.old) layout.old → IsEnded (F.size flash.old) (F.marks flash.new) layout.new result }
 {
     let read = flash.read_slot(layout.held[page].page as usize, slot);

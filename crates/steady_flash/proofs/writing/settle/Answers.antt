@@ -2,6 +2,7 @@ use Rattle.std.proofs.Common.{rules}
 use Rattle.steady_flash.specs.Cells.{IsEight}
 use Rattle.steady_flash.specs.Sound.{steady_at}
 use Rattle.steady_flash.proofs.Calm.{stopped_sound, sound_after, sound_same}
+use Rattle.steady_flash.proofs.Cutting.{given_up, tired}
 use Rattle.steady_flash.proofs.Cells.{torn_reading}
 use Rattle.steady_flash.proofs.Session.{settled_by_moves}
 use Rattle.steady_flash.proofs.writing.settle.Goals as goal
@@ -23,3 +24,19 @@ returns-in-Err-clause-calm g c = λ k.
 pub returns-clause-calm : goal.returns-clause-calm
 returns-clause-calm g c = λ k.
     (steady_at c.loop.layout, sound_same _ (g.F.MarkedFlash.marks c.loop.flash) (g.F.MarkedFlash.marks c.give_up-2.new.self) (steady_at c.loop.layout) c.give_up-2.ensures.marks (c.loop.invariant.calm k).sound)
+
+pub returns-in-Err-clause-cut : goal.returns-in-Err-clause-cut
+returns-in-Err-clause-cut g c k _ =
+    let l = c.args.layout.now in
+    let stopped = rw c.loop.invariant.same_layout at (c.in-Err.ensures.calm (rw c.loop.invariant.same_size (c.loop.invariant.calm k))) in
+    let calm = rw c.loop.invariant.same_layout at (c.loop.invariant.calm k) in
+    let others = rw c.loop.invariant.same_layout at c.move_page.ensures.others in
+    let opened = rw c.loop.invariant.same_layout at c.move_page.ensures.opened in
+    let copy = rw c.loop.invariant.same_layout at c.in-Err.ensures.copied in
+    given_up _ l c.args.page (record { slot = c.args.slot; bytes = c.read_slot-read.result }) c.in-Err.field-0 (g.F.MarkedFlash.marks c.args.flash.now) (g.F.MarkedFlash.slots c.args.flash.now) (g.F.MarkedFlash.marks c.loop.flash) (g.F.MarkedFlash.slots c.loop.flash) (g.F.MarkedFlash.marks c.move_page.new.flash) (g.F.MarkedFlash.slots c.move_page.new.flash) (g.F.MarkedFlash.marks c.give_up.new.self) (g.F.MarkedFlash.slots c.give_up.new.self)
+    c.requires.in_pages c.read_slot-read.ensures calm c.loop.invariant.others c.loop.invariant.opened (rw c.loop.invariant.same_size at stopped) others opened copy c.give_up.ensures.marks c.give_up.ensures.slots
+
+pub returns-clause-cut : goal.returns-clause-cut
+returns-clause-cut g c k _ =
+    let calm = rw c.loop.invariant.same_layout at (c.loop.invariant.calm k) in
+    tired _ c.args.layout.now c.args.page (g.F.MarkedFlash.marks c.args.flash.now) (g.F.MarkedFlash.slots c.args.flash.now) (g.F.MarkedFlash.marks c.loop.flash) (g.F.MarkedFlash.slots c.loop.flash) (g.F.MarkedFlash.marks c.give_up-2.new.self) (g.F.MarkedFlash.slots c.give_up-2.new.self) calm c.loop.invariant.others c.loop.invariant.opened c.give_up-2.ensures.marks c.give_up-2.ensures.slots

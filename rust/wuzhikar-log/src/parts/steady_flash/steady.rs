@@ -25,8 +25,8 @@ pub const NO_SLOT: [u8; SLOT_BYTES] = [255, 255, 255, 127, 255, 255, 255, 255];
 ///
 /// A power loss is a flash whose operations all fail from then on, the first of them torn. Of a start that is cut it is proved that
 /// the cells show no more than before it, and that one completed behind it shows what was there. A session that is cut leaves sound
-/// marks: each page is found where it was, or on the spare page. Behind an erase that is cut a start shows the page as it was, or
-/// blank. What it shows of a slot whose program is cut is **tested, not proved**, under these premises:
+/// marks, and cells that a start shows as `NorFlash` says of a torn operation. That the page of a torn program tells the next start
+/// so, which then settles it, is **tested, not proved**, under these premises:
 ///
 /// - The flash does what [`MarkedFlash`] asks, and nothing else writes there, a plain log neither.
 /// - The power is not lost inside as many starts in a row as half the triples of a page: at least 4, mostly 12. A start that ends
