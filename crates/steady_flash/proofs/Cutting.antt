@@ -10,7 +10,7 @@ use Rattle.steady_flash.specs.Layout.{held_at, IsLaidOut}
 use Rattle.steady_flash.specs.Moves.{Holds, IsTorn, IsCopy, IsCopiedTo, IsErasedPage, moved}
 use Rattle.steady_flash.specs.Shown.{shown, image_of, image_as, IsSettled, IsKept, IsBlanked}
 use Rattle.steady_flash.specs.Claims.{IsOpenTold}
-use Rattle.steady_flash.specs.Sound.{Standing, IsSound, IsCalm, MayShow, IsShrunk, IsStopped, IsCut, IsOpen, steady_at, moving_at}
+use Rattle.steady_flash.specs.Sound.{Standing, IsSound, IsCalm, MayShow, IsShrunk, IsStopped, IsCut, IsOpen, steady_at, moving_at, Shrinks, IsStarted}
 use Rattle.steady_flash.specs.declared.moving.Changed.{Changed}
 use Rattle.steady_flash.specs.declared.moving.Stop.{Stop}
 use Rattle.steady_flash.specs.declared.moving.Stop.TheVariants.{InDoubt}
@@ -21,7 +21,7 @@ use Rattle.steady_flash.proofs.Images.{same_image, is_image, slot_at-bytes_of, o
 use Rattle.steady_flash.proofs.Session.{there_after, elsewhere_after, kept_by_spare, blanked_by_move, erased_holds, erases_of, keeps_erase, changed_by_move, programs_of, keeps_program}
 use Rattle.steady_flash.proofs.Doubts.{image_none}
 use Rattle.steady_flash.proofs.Calm.{sound_same}
-use Rattle.steady_flash.proofs.Shrinking.{one_image, shrinks_then, shrinks_narrow, shrinks_spare, shrunk_stopped, shrunk_then}
+use Rattle.steady_flash.proofs.Shrinking.{one_image, started_behind, shrinks_then, shrinks_narrow, shrinks_spare, shrunk_stopped, shrunk_then}
 
 -- what each page reads as
 own_read : (slots : ℕ → ℕ → Written) (layout : Layout) (p at s : ℕ) (read : List ℕ) → IsSettled slots layout → p < layout.pages → s < 512 → at ≡ (held_at layout.held p).page → IsReading (slots at s).cells read → read ≡ shown slots layout p s
@@ -191,3 +191,11 @@ pub program_done : (size : Size) (marks old new : ℕ → ℕ → Written) (layo
     → IsCut size marks new layout.pages tells (MayProgram (image_as old layout doubt) page slot bytes)
 program_done size marks old new layout after doubt now page slot bytes tells pages none c settled m =
     rw pages at (cut_calm size marks new after tells (MayProgram (image_as old layout doubt) page slot bytes) c settled (image_now new after now (image_as old layout doubt) page slot bytes none m))
+
+-- starts behind it
+pub cut_started : (size : Size) (marks slots marks' slots' marks'' slots'' : ℕ → ℕ → Written) (pages : ℕ) (tells : Type 0) (may_be : List ℕ → Type 0) (between : Standing) (layout : Layout) → (cut : IsCut size marks slots pages tells may_be) → Shrinks size cut.standing marks slots between marks' slots' → IsStarted size between marks' slots' layout marks'' slots'' → tells
+    → IsSettled slots'' layout × may_be (image_of slots'' layout)
+cut_started size marks slots marks' slots' marks'' slots'' pages tells may_be between layout cut shrinks started t =
+    let x = started_behind size cut.standing between marks slots marks' slots' marks'' slots'' layout shrinks started (cut.told t) in
+    let e : layout.pages ≡ pages = started.shrinks.pages ∙ shrinks.pages ∙ cut.pages_there in
+    (x.0, rw e (cut.shows (shown slots'' layout) (λ p s b u. (x.0 p s (rw e b) u).eight) x.1))

@@ -4,13 +4,13 @@
 
 ghost use Rattle.std.specs.Prelude.{◌≡◌, ◌<◌, ℕ};
 ghost use Rattle.shapes.specs.Shapes.{Bytes};
-ghost use Rattle.flash_model.specs.Operations.{MayProgram};
+ghost use Rattle.flash_model.specs.Operations.{MayProgram, MayErase};
 ghost use Rattle.flash_model.specs.declared.TheConstants.{PAGE_SLOTS};
 ghost use Rattle.steady_flash.specs.Cells.{IsEight, Written, IsReading, MayBeProgrammed, blank};
 ghost use Rattle.steady_flash.specs.Marked.{Size, OnePlace};
 ghost use Rattle.steady_flash.specs.Layout.{held_at, IsLaidOut};
 ghost use Rattle.steady_flash.specs.Shown.{shown, image_of, IsSettled, IsReadImage};
-ghost use Rattle.steady_flash.specs.Sound.{Standing, IsSound, IsCalm, IsTold, MayShow, Shrinks, IsStarted, steady_at};
+ghost use Rattle.steady_flash.specs.Sound.{Standing, IsSound, IsCalm, IsTold, MayShow, Shrinks, IsStarted, steady_at, IsCut, IsOpen};
 ghost use Rattle.steady_flash.specs.Claims.{IsOpenTold, IsClaimed};
 ghost use Rattle.steady_flash.specs.Told.{IsFoundTold};
 ghost use Rattle.steady_flash.specs.declared.layout.Layout.{Layout};
@@ -71,4 +71,19 @@ pub fn a_calm_flash_shows_one_image()
 /// There is a flash of which this is true.
 pub fn some_flash_is_calm()
     ensures { (layout : Layout) × (marks : ℕ → ℕ → Written) × IsCalm (record { pages = 3; triples = 8 }) marks layout }
+{}
+
+/// What a start shows that is completed behind an erase that was cut, and behind any starts that were: one image, as a torn erase
+/// leaves it.
+pub fn a_start_behind_a_cut_erase_shows_it_torn()
+    ensures { (size : Size) (marks slots marks' slots' marks'' slots'' : ℕ → ℕ → Written) (pages page : ℕ) (old : Bytes) (between : Standing) (layout : Layout) (cut : IsCut size marks slots pages (Unit {0}) (MayErase old page))
+        → Shrinks size cut.standing marks slots between marks' slots' → IsStarted size between marks' slots' layout marks'' slots''
+        → IsSettled slots'' layout × MayErase old page (image_of slots'' layout) }
+{}
+
+/// And behind a program, where the mark of the page reads as programmed.
+pub fn a_start_behind_a_cut_program_shows_it_torn()
+    ensures { (size : Size) (marks slots marks' slots' marks'' slots'' : ℕ → ℕ → Written) (pages page slot at : ℕ) (bytes old : Bytes) (between : Standing) (layout : Layout) (cut : IsCut size marks slots pages (IsOpen marks at) (MayProgram old page slot bytes))
+        → Shrinks size cut.standing marks slots between marks' slots' → IsStarted size between marks' slots' layout marks'' slots'' → IsOpen marks at
+        → IsSettled slots'' layout × MayProgram old page slot bytes (image_of slots'' layout) }
 {}
