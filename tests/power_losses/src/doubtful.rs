@@ -221,7 +221,15 @@ impl Adapter for SteadyFlash<Doubtful> {
 
     fn start(chip: Doubtful, pages: usize) -> Result<Self, (Doubtful, MountError)> {
         debug_assert_eq!(chip.pages(), pages + 1);
-        SteadyFlash::take_over(chip).map_err(|Unmounted { flash, why }| (flash, why))
+        // A start in which an operation failed 8 times in a row is made again, as a firmware does.
+        let mut started = SteadyFlash::take_over(chip);
+        for _ in 1..8 {
+            started = match started {
+                Err(Unmounted { flash, why: MountError::Fault }) if !flash.power.is_off() => SteadyFlash::take_over(flash),
+                other => other,
+            };
+        }
+        started.map_err(|Unmounted { flash, why }| (flash, why))
     }
 
     fn stop(self) -> Doubtful {

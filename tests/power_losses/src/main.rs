@@ -140,7 +140,7 @@ mod tests {
     #[test]
     fn short_lives_on_cells_that_waver_lose_nothing() {
         assert!(life::<Pages, SteadyFlash<Doubtful>>(85529, 12, WAVERING).is_ok());
-        assert!(matches!(lives_of("lives", 2000), Ok(told) if told.contains("0 lost")));
+        assert!(matches!(lives_of("lives", 4000), Ok(told) if told.contains("0 lost")));
     }
 
     #[test]
