@@ -199,3 +199,13 @@ cut_started size marks slots marks' slots' marks'' slots'' pages tells may_be be
     let x = started_behind size cut.standing between marks slots marks' slots' marks'' slots'' layout shrinks started (cut.told t) in
     let e : layout.pages ≡ pages = started.shrinks.pages ∙ shrinks.pages ∙ cut.pages_there in
     (x.0, rw e (cut.shows (shown slots'' layout) (λ p s b u. (x.0 p s (rw e b) u).eight) x.1))
+
+pub rested : (size : Size) (marks slots marks' slots' marks'' slots'' : ℕ → ℕ → Written) (session layout : Layout) (between : Standing) → IsSettled slots session → Shrinks size (steady_at session) marks slots between marks' slots' → IsStarted size between marks' slots' layout marks'' slots''
+    → IsSettled slots'' layout × (image_of slots'' layout ≡ image_of slots session)
+rested size marks slots marks' slots' marks'' slots'' session layout between settled shrinks started =
+    let x = started_behind size (steady_at session) between marks slots marks' slots' marks'' slots'' layout shrinks started (λ p at b k. elim k [
+      | inl own ↦ settled_told marks slots session p at settled b own
+      | inr it ↦ absurd (let e = it.1 in omega arith)
+    ]) in
+    let e : layout.pages ≡ session.pages = started.shrinks.pages ∙ shrinks.pages in
+    (x.0, rw e (same_image (shown slots session) (shown slots'' layout) session.pages (λ p s b t. one_image slots session (shown slots'' layout) p s settled x.1 b t)))

@@ -73,6 +73,13 @@ pub fn some_flash_is_calm()
     ensures { (layout : Layout) × (marks : ℕ → ℕ → Written) × IsCalm (record { pages = 3; triples = 8 }) marks layout }
 {}
 
+/// A start that is completed behind a session, and behind any that were cut, shows the image that the session had.
+pub fn a_start_behind_a_session_shows_its_image()
+    ensures { (size : Size) (marks slots marks' slots' marks'' slots'' : ℕ → ℕ → Written) (session layout : Layout) (between : Standing) → IsSettled slots session
+        → Shrinks size (steady_at session) marks slots between marks' slots' → IsStarted size between marks' slots' layout marks'' slots''
+        → IsSettled slots'' layout × (image_of slots'' layout ≡ image_of slots session) }
+{}
+
 /// What a start shows that is completed behind an erase that was cut, and behind any starts that were: one image, as a torn erase
 /// leaves it.
 pub fn a_start_behind_a_cut_erase_shows_it_torn()
