@@ -21,12 +21,13 @@ pub const NO_SLOT: [u8; SLOT_BYTES] = [255, 255, 255, 127, 255, 255, 255, 255];
 ///
 /// Proved (clauses of the calls): no call panics, and each ends. Between two starts it does what `NorFlash` says; once it is given up
 /// it reads on, and each operation fails. A start shows what the cells may have read as, if for each page the greatest claim that was
-/// begun is firm. On a healthy flash a start, a program and an erase succeed, until marks or numbers end.
+/// begun is firm. On a healthy flash a start, a program and an erase then succeed, until marks or numbers end.
 ///
-/// A power loss is a flash whose operations all fail from then on, the first of them torn. Of a start that is cut it is proved that
-/// the cells show no more than before it, and that one completed behind it shows what was there. A session that is cut leaves sound
-/// marks, and cells that a start shows as `NorFlash` says of a torn operation. That the page of a torn program tells the next start
-/// so, which then settles it, is **tested, not proved**, under these premises:
+/// A power loss is a flash whose operations all fail from then on, the first of them torn. Where the marks were sound before: of a
+/// start that is cut it is proved that the cells show no more than before it, and that one completed behind it shows what was there.
+/// A session that is cut leaves sound marks, and cells that a start shows as `NorFlash` says of a torn operation. That `take_over`
+/// and `format` leave sound marks, and that the page of a torn program tells the next start so, which then settles it, is **tested,
+/// not proved**, under these premises:
 ///
 /// - The flash does what [`MarkedFlash`] asks, and nothing else writes there, a plain log neither.
 /// - The power is not lost inside as many starts in a row as half the triples of a page: at least 4, mostly 12. A start that ends
