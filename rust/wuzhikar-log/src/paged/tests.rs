@@ -68,6 +68,19 @@ fn a_page_of_values_without_bytes_can_be_emptied() {
 }
 
 #[test]
+fn changes_fill_a_page_and_no_more() {
+    let changes = |len| [(1, [1; 1024].to_vec()), (2, [2; 500][..len].to_vec())];
+    let mut settings = blank(2);
+    let mut store = |len| {
+        let values = changes(len);
+        let all = values.each_ref().map(|(id, value)| Change { id: *id, value: Some(value) });
+        (settings.transaction(&all), settings.flash().image().iter().all(|&byte| byte == 0xFF), read(&settings, 2))
+    };
+    assert_eq!(store(500), (Err(SettingsError::Full), true, None));
+    assert_eq!(store(498), (Ok(()), false, Some([2; 498].to_vec())));
+}
+
+#[test]
 fn pages_of_something_else_are_refused_by_name_and_left() {
     let mut log = FlashLog::mount(SimFlash::blank(4).unwrap()).unwrap();
     log.rewrite([5]).unwrap();

@@ -124,7 +124,7 @@ pub fn transaction<F: NorFlash>(flash: &mut F, changes: &[Change<'_>]) -> Result
         return Ok(());
     }
     let end = end_for(changes);
-    if words > end || !has_room(flash, words, end) {
+    if words >= end || !has_room(flash, words, end) {
         return Err(SettingsError::Full);
     }
     let at = room_made(flash, words, end)?;
